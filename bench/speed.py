@@ -20,8 +20,6 @@ SIDES = ("proved", "plain")
 
 # The person's own bar, and how much a row may be above the page's figure.
 BAR = 2.0
-# A row that is above it, known and said on the page: it is held to the page alone.
-ABOVE = {"`read_dump` of that dump"}
 SLACK = 1.10
 
 # What a row is called, its case of rust/speed, and its size.
@@ -183,7 +181,7 @@ def judged(page, found):
     if [row[:2] for row in page] != [row[:2] for row in found]:
         wrong.append("the page has other rows or counts")
     for (label, _, proved, plain), (_, _, said, _) in zip(found, page):
-        if proved > BAR * plain and label not in ABOVE:
+        if proved > BAR * plain:
             wrong.append(f"{label}: {proved / plain:.2f} of plain Rust's instructions; the bar is {BAR}")
         if proved > SLACK * said:
             wrong.append(f"{label}: {proved} instructions, the page says {said}")
@@ -336,8 +334,8 @@ def quick(counter):
     if wrong:
         fail(f"{len(wrong)} rows fail; where only {PAGE} is old, bash bench/speed.sh --write measures it anew")
     greatest = max((proved / plain, label) for label, _, proved, plain in found)
-    print(f"speed: {len(found)} rows with equal counts, none dearer than the page says, none above {BAR} but "
-          f"{', '.join(sorted(ABOVE))}; greatest {greatest[0]:.2f}, {greatest[1]}")
+    print(f"speed: {len(found)} rows with equal counts, none dearer than the page says, none above {BAR}; "
+          f"greatest {greatest[0]:.2f}, {greatest[1]}")
 
 
 def try_itself(page, rows):

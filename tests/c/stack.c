@@ -361,7 +361,10 @@ static void by_keys_in_vain(uint32_t size)
     health[63] = 1;
 }
 
-/* One bucket of each header, falling: cells 64 apart share their marks in the sorted call, so that all are looked at. */
+/*
+ * One bucket of each header: cells 64 apart share their marks in the sorted call, so that all are looked at. They fall
+ * but for the last two, so that the whole list is looked at and then sorted.
+ */
 static void by_far_keys(uint32_t size)
 {
     uint32_t i;
@@ -369,6 +372,10 @@ static void by_far_keys(uint32_t size)
     for (i = 0; i < size; i++) {
         keys[2 * i] = 63 - i;
         keys[2 * i + 1] = 0;
+    }
+    if (size > 2) {
+        keys[2 * size - 4] = 64 - size;
+        keys[2 * size - 2] = 65 - size;
     }
     keys_len = (size_t)2 * size;
 }

@@ -1,7 +1,7 @@
 -- A test for damage in one pass over the lines: no pair of bodies is looked at. The room behind the contents is cut into cells of five bytes. Two
 -- bodies that begin in one cell overlap, so a cell has at most one; and a body can overlap only those that begin in its own cell and in the two
 -- beside it. A mark a cell is enough: 0, or where in the cell its body begins, plus 1.
-use Prim.Native.Nat.{ℕ, zero, suc, _+_, _*_, _-_, _/_, _%_, _≤_, _<_}
+use Prim.Native.Nat.{ℕ, zero, suc, _+_, _*_, _-_, _/_, _%_, _^_, _≤_, _<_}
 use mathlib.Core.Path.{_≡_, refl, ap, _∙_}
 use mathlib.Core.Logic.{_≢_, _⊎_, inl, inr}
 use mathlib.Core.List.{List}
@@ -11,7 +11,7 @@ use native.Mathlib.Decide.{ℕ-discrete, decLt}
 use lib.Dec.{leb, eqb}
 use lib.ListN.{length, getD, set, replicate, length-set, length-replicate}
 use lib.Seq.{getD-set-same, getD-set-other}
-use borrow.Author.Tests.{eqb-true, eq-eqb, leb-true, le-leb}
+use borrow.Author.Tests.{eqb-true, eqb-false, eq-eqb, ne-eqb, leb-true, le-leb}
 use Rattle.choice.specs.Choice.{if_then_else_}
 use Rattle.choice.specs.Pick.{both, or-true, same-truth}
 use Rattle.laws.specs.Lists.{zeros}
@@ -347,3 +347,57 @@ scan-end n b k marks l = let e : linesOf n - k ≡ 0 = omega arith in rw e
 
 pub scan-start : (n : ℕ) (b marks : List ℕ) → scanOf n b (linesOf n - 0) 0 marks ≡ scanOf n b (linesOf n) 0 marks
 scan-start n b marks = let e : linesOf n - 0 ≡ linesOf n = omega arith in ap (λ (x : ℕ). scanOf n b x 0 marks) e
+
+-- ---- what a line wants of the next one's version
+
+-- line k, unless it is a slot's first, has this version if it falls
+abbrev pub Wanted : List ℕ → ℕ → ℕ → Type 0
+Wanted b k v = k % 4 ≢ 0 → v ≡ versionAt b (k - k % 4) - k % 4
+
+less-one : (v a x m : ℕ) → v ≡ a - 1 → a ≡ x - m → v ≡ x - (m + 1)
+less-one v a x m e f = omega (arith, e, f)
+
+pub wanted-more : (b : List ℕ) (k v : ℕ) → isFalling b k ≡ true → v ≡ versionAt b k - 1 → Wanted b (k + 1) v
+unfolding isFalling
+wanted-more b k v f e d =
+    let next : (k + 1) % 4 ≡ k % 4 + 1 = omega (arith, d) in
+    let first : (k + 1) - (k % 4 + 1) ≡ k - k % 4 = omega arith in
+    rw (next, first) (less-one v (versionAt b k) (versionAt b (k - k % 4)) (k % 4) e (eqb-true _ _ f))
+
+pub falling-first : (b : List ℕ) (k : ℕ) → k % 4 ≡ 0 → isFalling b k ≡ true
+unfolding isFalling
+falling-first b k e =
+    let same : k - k % 4 ≡ k = omega arith in
+    eq-eqb (versionAt b k) (versionAt b (k - k % 4) - k % 4) (omega (arith, ap (versionAt b) same))
+
+-- ---- a line's place and length as one number
+
+module _ (n p l size w d : ℕ) (few : n ≤ 64) (short : size ≤ 34788) (is : w ≡ p + 65536 * l) (low : p < 65536) (wraps : (d + (327680 + 32 * n)) % 2 ^ 64 ≡ w) where
+  pub in-places : d < size - 32 * n - 4 → (l ≡ 5) × (32 * n ≤ p) × (p + 5 ≤ size) × (p ≡ 32 * n + d)
+  in-places h =
+      let under : d + 32 * n + 4 < size = omega (arith, h) in
+      let whole : d + (327680 + 32 * n) ≡ w = omega (arith, wraps, under, short) in
+      let five : l ≡ 5 = omega (arith, whole, is, low, under, short) in
+      (five, omega (arith, whole, is, five), omega (arith, whole, is, five, under), omega (arith, whole, is, five))
+
+  pub out-places : (s : Bool) → d < 2 ^ 64 → size - 32 * n - 4 ≤ d → (eqb l 5 && (leb (32 * n) p && (leb (p + 5) size && s))) ≡ false
+  out-places s top h = go (eqb l 5) refl (leb (32 * n) p) refl (leb (p + 5) size) refl
+    where
+      go : (x : Bool) → eqb l 5 ≡ x → (y : Bool) → leb (32 * n) p ≡ y → (z : Bool) → leb (p + 5) size ≡ z → (x && (y && (z && s))) ≡ false
+      go false e y f z g = refl
+      go true e false f z g = refl
+      go true e true f false g = refl
+      go true e true f true g =
+          let five : l ≡ 5 = eqb-true l 5 e in
+          let over : 32 * n ≤ p = leb-true (32 * n) p f in
+          let under : p + 5 ≤ size = leb-true (p + 5) size g in
+          let whole : d + 32 * n ≡ p = omega (arith, wraps, is, five, over, low, top) in
+          absurd (omega (arith, h, whole, under))
+
+pub zero-word : (p l w : ℕ) → w ≡ p + 65536 * l → eqb w 0 ≡ (eqb p 0 && eqb l 0)
+zero-word p l w e = go (eqb p 0) refl (eqb l 0) refl
+  where
+    go : (x : Bool) → eqb p 0 ≡ x → (y : Bool) → eqb l 0 ≡ y → eqb w 0 ≡ (x && y)
+    go false f y g = let no : p ≡ 0 → ⊥ = eqb-false p 0 f in ne-eqb w 0 (λ z. no (omega (arith, e, z)))
+    go true f false g = let no : l ≡ 0 → ⊥ = eqb-false l 0 g in ne-eqb w 0 (λ z. no (omega (arith, e, z)))
+    go true f true g = let p0 : p ≡ 0 = eqb-true p 0 f in let l0 : l ≡ 0 = eqb-true l 0 g in eq-eqb w 0 (omega (arith, e, p0, l0))

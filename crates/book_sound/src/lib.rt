@@ -2,11 +2,11 @@
 // Functions with a `requires` are parts: calls have tested the head, the book's length and the slot.
 use setpoint::Decoded;
 ghost use mathlib.Core.Path.{_≡_};
-ghost use Prim.Native.Nat.{_+_, _*_, _≤_, _<_};
+ghost use Prim.Native.Nat.{_+_, _*_, _-_, _≤_, _<_};
 ghost use lib.ListN.{length};
 ghost use Rattle.book_rules.specs.Layout.{linesOf, frontOf, placeAt, lengthAt, versionAt, settingAt, isSetting};
 ghost use Rattle.book_rules.specs.Layout.{isKept, isFalling, isFitting, isSound};
-ghost use Rattle.book_sound.specs.Scan.{isClear, scanOf};
+ghost use Rattle.book_sound.specs.Scan.{isClear, scanOf, Wanted};
 
 // The place in line k.
 pub fn place_at(book: &[u8], k: usize) -> u32
@@ -16,12 +16,18 @@ pub fn place_at(book: &[u8], k: usize) -> u32
     setpoint::join(book[8 * k], book[8 * k + 1], 0, 0)
 }
 
-// Its length.
-fn length_at(book: &[u8], k: usize) -> u32
+// Its place and its length as one number: 65,536 times the length, and the place.
+fn word_at(book: &[u8], k: usize) -> u32
     requires { ⌜ 8 * k + 8 ≤ length (now book) ⌝ }
-    ensures { λ r. ⌜ r ≡ lengthAt (now (book .entry)) k ⌝ }
+    ensures { λ r. ⌜ (r ≡ placeAt (now (book .entry)) k + 65536 * lengthAt (now (book .entry)) k)
+        × (placeAt (now (book .entry)) k < 65536) ⌝ }
 {
-    setpoint::join(book[8 * k + 2], book[8 * k + 3], 0, 0)
+    setpoint::join(
+        book[8 * k],
+        book[8 * k + 1],
+        book[8 * k + 2],
+        book[8 * k + 3],
+    )
 }
 
 // Its version.
@@ -48,18 +54,28 @@ pub fn is_kept(book: &[u8], k: usize) -> bool
     true
 }
 
-// Whether the version in line k is as far below its slot's newest as the line is.
-fn is_falling(book: &[u8], k: usize) -> bool
+// The version that the line behind k has if it is of the same slot: one less, or 0.
+fn version_below(book: &[u8], k: usize) -> u32
     requires { ⌜ 8 * k + 8 ≤ length (now book) ⌝ }
+    ensures { λ r. ⌜ r ≡ versionAt (now (book .entry)) k - 1 ⌝ }
+{
+    let version = version_at(book, k);
+    if version == 0 {
+        return 0;
+    }
+    version - 1
+}
+
+// Whether the version in line k is as far below its slot's newest as the line is: what the line before wants of it.
+fn is_falling(book: &[u8], k: usize, wanted: u32) -> bool
+    requires { ⌜ 8 * k + 8 ≤ length (now book) ⌝ }
+    requires { ⌜ Wanted (now book) k wanted ⌝ }
     ensures { λ r. ⌜ r ≡ isFalling (now (book .entry)) k ⌝ }
 {
-    let age = k % 4;
-    let newest = version_at(book, k - age);
-    let version = version_at(book, k);
-    if newest < age as u32 {
-        return version == 0;
+    if k % 4 == 0 {
+        return true;
     }
-    version == newest - age as u32
+    version_at(book, k) == wanted
 }
 
 // What the five bytes from p on mean.
@@ -83,28 +99,46 @@ fn is_setting(book: &[u8], p: usize) -> bool
     }
 }
 
-// Whether line k of n slots, and its body, fit the rules.
-fn is_fitting(n: usize, book: &[u8], k: usize) -> bool
+// Of a book of n slots, how many places behind the contents have five bytes.
+fn places(n: usize, size: usize) -> usize
+    requires { ⌜ n ≤ 64 ⌝ }
+    ensures { λ r. ⌜ r ≡ size - frontOf n - 4 ⌝ }
+{
+    if size < 32 * n + 4 {
+        return 0;
+    }
+    size - 32 * n - 4
+}
+
+// Whether line k of n slots, and its body, fit the rules. Its word less the least one that fits, which wraps below 0,
+// is below the number of places only if length and place both fit.
+fn is_fitting(n: usize, places: usize, book: &[u8], k: usize) -> bool
     requires { ⌜ n ≤ 64 ⌝ }
     requires { ⌜ 8 * k + 8 ≤ length (now book) ⌝ }
+    requires { ⌜ length (now book) ≤ 34788 ⌝ }
+    requires { ⌜ places ≡ length (now book) - frontOf n - 4 ⌝ }
     ensures { λ r. ⌜ r ≡ isFitting n (now (book .entry)) k ⌝ }
 {
-    let place = place_at(book, k) as usize;
-    let size = length_at(book, k);
+    let word = word_at(book, k);
     if is_kept(book, k) {
-        if size == 5 {
-            if 32 * n <= place {
-                if place + 5 <= book.len() {
-                    return is_setting(book, place);
-                }
-            }
+        let d = std::num::wrapping_sub_usize(word as usize, 327680 + 32 * n);
+        if d < places {
+            return is_setting(book, 32 * n + d);
         }
         return false;
     }
-    if place == 0 {
-        return size == 0;
-    }
-    false
+    word == 0
+}
+
+// How far behind the contents the body of a line that fits stands.
+fn behind(n: usize, book: &[u8], k: usize) -> u16
+    requires { ⌜ n ≤ 64 ⌝ }
+    requires { ⌜ 8 * k + 8 ≤ length (now book) ⌝ }
+    requires { ⌜ lengthAt (now book) k ≡ 5 ⌝ }
+    requires { ⌜ frontOf n ≤ placeAt (now book) k ⌝ }
+    ensures { λ r. ⌜ r ≡ placeAt (now (book .entry)) k - frontOf n ⌝ }
+{
+    (word_at(book, k) as usize - (327680 + 32 * n)) as u16
 }
 
 // Whether a body from offset r of cell c on overlaps none that is marked.
@@ -133,13 +167,16 @@ pub fn scan(n: usize, book: &[u8], marks: &mut [u8]) -> bool
     requires { ⌜ 6550 ≤ length (now marks) ⌝ }
     ensures { λ r. ⌜ (r, now (marks .exit)) ≡ scanOf n (now (book .entry)) (linesOf n) 0 (now (marks .entry)) ⌝ }
 {
+    let places = places(n, book.len());
+    let mut wanted = 0;
     let mut k = 0;
     while k < 4 * n {
-        if is_falling(book, k) {
-            if is_fitting(n, book, k) {
+        if is_falling(book, k, wanted) {
+            if is_fitting(n, places, book, k) {
+                wanted = version_below(book, k);
                 if is_kept(book, k) {
-                    let d = place_at(book, k) as usize - 32 * n;
-                    let c = d / 5;
+                    let d = behind(n, book, k);
+                    let c = (d / 5) as usize;
                     let r = (d % 5) as u8;
                     if is_clear(marks, c, r) {
                         marks[c + 1] = r + 1;

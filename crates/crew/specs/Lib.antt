@@ -1,4 +1,5 @@
 pub mod Model
+pub mod Moves
 pub mod Reply
 pub mod Places
 pub mod Turns

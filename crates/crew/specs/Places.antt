@@ -21,11 +21,11 @@ pub record Placed (work : Work) (start n count k : ℕ) : Type 0 where
   pub giving : count + addsOf work count ≤ n → k ≡ start + (movesOf work count - 1 - n)
 
 -- what the code computes
-pub place-low : (start n count : ℕ) → n < count → placeOf start n count ≡ start + n
+place-low : (start n count : ℕ) → n < count → placeOf start n count ≡ start + n
 unfolding placeOf
 place-low start n count l = rw (lt-ltb n count l)
 
-pub place-high : (start n count : ℕ) → count ≤ n → placeOf start n count ≡ start + (2 * count - 1 - n)
+place-high : (start n count : ℕ) → count ≤ n → placeOf start n count ≡ start + (2 * count - 1 - n)
 unfolding placeOf
 place-high start n count l = rw (le-ltb n count l)
 

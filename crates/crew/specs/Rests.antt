@@ -1,5 +1,5 @@
 -- The loop over the turns of document 01's run: no counters, and nothing is added. The values noted are none that a turn reads.
-use Prim.Native.Nat.{ℕ, _+_, _*_, _-_, _≤_, _<_}
+use Prim.Native.Nat.{ℕ, _+_, _-_, _<_}
 use mathlib.Core.Path.{_≡_, refl, ap, _∙_}
 use mathlib.Core.List.{List, []}
 use mathlib.Core.Bool.{Bool, true, false}
@@ -24,32 +24,32 @@ rests-move next buckets t g n count c value = go (ltb n count) refl
     go true f = rw f
     go false f = rw (none, f)
 
-pub record Resting (headers buckets : ℕ) (g counts cells turns : List ℕ) (start : Crew) (next : ℕ) (t made : List ℕ) (moving i : ℕ) : Type 0 where
+pub record Resting (headers buckets : ℕ) (g counts cells turns : List ℕ) (start : Crew) (next : ℕ) (t left : List ℕ) (moving i : ℕ) : Type 0 where
   pub noted : List ℕ
-  pub run : Working rests headers buckets g counts cells turns start next t made moving i [] noted
+  pub run : Working rests headers buckets g counts cells turns start next t left moving i [] noted
 
-module _ (headers buckets : ℕ) (g counts cells turns : List ℕ) (start : Crew) (next : ℕ) (t made : List ℕ) (moving i : ℕ) where
+module _ (headers buckets : ℕ) (g counts cells turns : List ℕ) (start : Crew) (next : ℕ) (t left : List ℕ) (moving i : ℕ) where
   abbrev Here : Type 0
-  Here = Resting headers buckets g counts cells turns start next t made moving i
+  Here = Resting headers buckets g counts cells turns start next t left moving i
 
   abbrev Then : ℕ → List ℕ → List ℕ → ℕ → Type 0
-  Then next′ t′ made′ moving′ = Resting headers buckets g counts cells turns start next′ t′ made′ moving′ (i + 1)
+  Then next′ t′ left′ moving′ = Resting headers buckets g counts cells turns start next′ t′ left′ moving′ (i + 1)
 
   abbrev member : ℕ
   member = getD turns i 0
 
-  pub rest-idle : Here → i < length turns → 2 * getD counts member 0 ≤ getD made member 0 → Then next t made moving
-  rest-idle w l e = record { noted = w .noted; run = work-idle rests headers buckets g counts cells turns start next t made moving i [] (w .noted) (w .run) l (omega arith) }
+  pub rest-idle : Here → i < length turns → member < 16 → getD left member 0 ≡ 0 → Then next t left moving
+  rest-idle w l b e = record { noted = w .noted; run = work-idle rests headers buckets g counts cells turns start next t left moving i [] (w .noted) (w .run) l b e }
 
-  module _ (w : Here) (l : i < length turns) (first k : ℕ) (un : Unfinished rests headers buckets g counts cells turns start next t made moving i [] (w .noted) first k) (mv : Move) (u : List ℕ) (e : (mv, u) ≡ makeMoveOf next buckets t g (ltb (getD made member 0) (getD counts member 0)) (getD cells k 0)) (same : length u ≡ length t) where
-    by-work : (mv, (u, [])) ≡ workMoveOf rests next buckets t g [] (getD made member 0) (getD counts member 0) (getD cells k 0) (getD (w .noted) member 0)
-    by-work = ap (beside []) e ∙ rests-move next buckets t g (getD made member 0) (getD counts member 0) (getD cells k 0) (getD (w .noted) member 0)
+  module _ (w : Here) (l : i < length turns) (n first k : ℕ) (un : Unfinished rests headers buckets g counts cells turns start next t left moving i [] (w .noted) n first k) (mv : Move) (u : List ℕ) (e : (mv, u) ≡ makeMoveOf next buckets t g (ltb n (getD counts member 0)) (getD cells k 0)) (same : length u ≡ length t) where
+    by-work : (mv, (u, [])) ≡ workMoveOf rests next buckets t g [] n (getD counts member 0) (getD cells k 0) (getD (w .noted) member 0)
+    by-work = ap (beside []) e ∙ rests-move next buckets t g n (getD counts member 0) (getD cells k 0) (getD (w .noted) member 0)
 
-    pub rest-tried : mv ≡ move.Idle → Then next u made moving
-    rest-tried f = record { noted = _; run = work-tried rests headers buckets g counts cells turns start next t made moving i [] (w .noted) (w .run) l first k un mv u [] by-work same f }
+    pub rest-tried : mv ≡ move.Idle → Then next u left moving
+    rest-tried f = record { noted = _; run = work-tried rests headers buckets g counts cells turns start next t left moving i [] (w .noted) (w .run) l n first k un mv u [] by-work same f }
 
-    pub rest-took : (next′ s : ℕ) → mv ≡ move.Took next′ s → Then next′ u (set made member (getD made member 0 + 1)) (moving + 1)
-    rest-took next′ s f = record { noted = _; run = work-took rests headers buckets g counts cells turns start next t made moving i [] (w .noted) (w .run) l first k un mv u [] by-work same next′ s f }
+    pub rest-took : (next′ s : ℕ) → mv ≡ move.Took next′ s → Then next′ u (set left member (getD left member 0 - 1)) (moving + 1)
+    rest-took next′ s f = record { noted = _; run = work-took rests headers buckets g counts cells turns start next t left moving i [] (w .noted) (w .run) l n first k un mv u [] by-work same next′ s f }
 
-    pub rest-moved : mv ≡ move.Moved → Then next u (set made member (getD made member 0 + 1)) (moving + 1)
-    rest-moved f = record { noted = _; run = work-moved rests headers buckets g counts cells turns start next t made moving i [] (w .noted) (w .run) l first k un mv u [] by-work same f }
+    pub rest-moved : mv ≡ move.Moved → Then next u (set left member (getD left member 0 - 1)) (moving + 1)
+    rest-moved f = record { noted = _; run = work-moved rests headers buckets g counts cells turns start next t left moving i [] (w .noted) (w .run) l n first k un mv u [] by-work same f }

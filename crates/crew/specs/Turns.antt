@@ -1,11 +1,11 @@
 -- Laws of the turns, in either work: one turn as the code makes it, and the loop over all of them.
 use Prim.Native.Nat.{ℕ, _+_, _*_, _-_, _/_, _≤_, _<_}
-use mathlib.Core.Path.{_≡_, refl, sym, ap, _∙_}
+use mathlib.Core.Path.{_≡_, refl, sym, ap, subst, _∙_}
 use mathlib.Core.List.{List, []}
 use mathlib.Core.Bool.{Bool, true, false}
 use native.Mathlib.Omega.{arith}
 use lib.Dec.{ltb, leb, eqb}
-use lib.ListN.{length, getD, set, drop, drop-of-length-le, length-set}
+use lib.ListN.{length, getD, set, drop, drop-of-length-le}
 use lib.Seq.{getD-set-same}
 use borrow.Author.Tests.{le-leb, lt-leb, eqb-true, ne-eqb, ltb-true, ltb-false}
 use Rattle.choice.specs.Choice.{if_then_else_}
@@ -13,7 +13,7 @@ use Rattle.model.specs.Log.{Made}
 use Rattle.model.specs.Arena.{waitersAt, stateAt, serialRemains}
 use Rattle.model.specs.Foreign.{setting, flowOf}
 use Rattle.model.specs.Lock.{takeIn, takeOf}
-use Rattle.model.specs.Crew.{Work, addsOf, movesOf, Crew, crewAt, afterTry, notedAt, addedTo, startOf, tryTurnOf, heldAllOf, addTurnOf, releaseTurnOf, turnOf, turnsOf}
+use Rattle.model.specs.Crew.{Work, addsOf, movesOf, Crew, crewAt, afterTry, moved, notedAt, addedTo, startOf, tryTurnOf, heldAllOf, addTurnOf, releaseTurnOf, turnOf, turnsOf}
 use Rattle.types.specs.declared.Locked.{Locked}
 use Rattle.types.specs.declared.Outcome.{Outcome}
 use Rattle.types.specs.declared.Outcome.the-variants as outcome
@@ -25,6 +25,7 @@ use Rattle.laws.specs.Lists.{drop-one}
 use Rattle.lock.specs.Model.{quietTake, quietLockOf}
 use Rattle.lock.specs.Laws.{lock-quiet}
 use Rattle.crew.specs.Model.{moveFor, moveBy, tryMoveOf, makeMoveOf, workMoveOf, notedBy, after}
+use Rattle.crew.specs.Moves.{Others, MadeAndLeft, made-is, one-made}
 use Rattle.crew.specs.Places.{Placed}
 use Rattle.crew.specs.declared.Move.{Move}
 use Rattle.crew.specs.declared.Move.the-variants as move
@@ -155,38 +156,40 @@ module _ (work : Work) (headers buckets : ℕ) (g counts cells : List ℕ) (next
 -- ---- the loop
 
 -- where it stands: every turn passed moved or was idle, and what the turns give from here on is what they give for the whole
-pub record Working (work : Work) (headers buckets : ℕ) (g counts cells turns : List ℕ) (start : Crew) (next : ℕ) (t made : List ℕ) (moving i : ℕ) (counters noted : List ℕ) : Type 0 where
-  -- the serials that the crew has noted; the code notes none, since no turn reads them
+pub record Working (work : Work) (headers buckets : ℕ) (g counts cells turns : List ℕ) (start : Crew) (next : ℕ) (t left : List ℕ) (moving i : ℕ) (counters noted : List ℕ) : Type 0 where
+  -- the moves made and the serials that the crew has noted; the code has the moves left, and notes no serial, since no turn reads them
+  pub made : List ℕ
   pub serials : List ℕ
   pub place : i ≤ length turns
   pub few : moving ≤ i
   pub words : length t ≡ length (start .table)
-  pub made-length : length made ≡ 16
+  pub parted : MadeAndLeft work counts made left
   pub rest : turnsOf work headers buckets g counts cells (crewAt next t made serials moving (i - moving) counters noted) (drop i turns) .seen ≡ turnsOf work headers buckets g counts cells start turns .seen
 
-module _ (work : Work) (headers buckets : ℕ) (g counts cells turns : List ℕ) (start : Crew) (next : ℕ) (t made : List ℕ) (moving i : ℕ) (counters noted : List ℕ) where
+module _ (work : Work) (headers buckets : ℕ) (g counts cells turns : List ℕ) (start : Crew) (next : ℕ) (t left : List ℕ) (moving i : ℕ) (counters noted : List ℕ) where
   abbrev Here : Type 0
-  Here = Working work headers buckets g counts cells turns start next t made moving i counters noted
+  Here = Working work headers buckets g counts cells turns start next t left moving i counters noted
 
   abbrev Then : ℕ → List ℕ → List ℕ → ℕ → List ℕ → List ℕ → Type 0
-  Then next′ t′ made′ moving′ counters′ noted′ = Working work headers buckets g counts cells turns start next′ t′ made′ moving′ (i + 1) counters′ noted′
+  Then next′ t′ left′ moving′ counters′ noted′ = Working work headers buckets g counts cells turns start next′ t′ left′ moving′ (i + 1) counters′ noted′
 
-  -- the member whose turn it is, the moves it has made, how many cells it wants
+  -- the member whose turn it is, how many moves it has left, how many cells it wants
   abbrev member : ℕ
   member = getD turns i 0
 
-  abbrev so-far : ℕ
-  so-far = getD made member 0
+  abbrev more : ℕ
+  more = getD left member 0
 
   abbrev wants : ℕ
   wants = getD counts member 0
 
-  -- it is a member, its list begins there, and its move is at k
-  pub record Unfinished (first k : ℕ) : Type 0 where
-    pub counted : member < length made
+  -- it is a member, it has made n moves and not all, its list begins there, and its move is at k
+  pub record Unfinished (n first k : ℕ) : Type 0 where
+    pub counted : member < 16
+    pub so-far : n + more ≡ movesOf work wants
+    pub unfinished : 1 ≤ more
     pub begins : first ≡ startOf counts member
-    pub placed : Placed work first so-far wants k
-    pub unfinished : so-far < movesOf work wants
+    pub placed : Placed work first n wants k
 
   one-idle : moving ≤ i → i - moving + 1 ≡ i + 1 - moving
   one-idle l = omega arith
@@ -194,60 +197,78 @@ module _ (work : Work) (headers buckets : ℕ) (g counts cells turns : List ℕ)
   same-idle : i - moving ≡ i + 1 - (moving + 1)
   same-idle = omega arith
 
-  pub work-idle : Here → i < length turns → movesOf work wants ≤ so-far → Then next t made moving counters noted
-  work-idle w l e =
+  pub work-idle : Here → i < length turns → member < 16 → more ≡ 0 → Then next t left moving counters noted
+  work-idle w l b e =
       record {
+        made = w .made;
         serials = w .serials;
         place = omega arith;
         few = omega (arith, w .few);
         words = w .words;
-        made-length = w .made-length;
-        rest = rw (← one-idle (w .few)) (sym (idle-at work headers buckets g counts cells next t made (w .serials) moving (i - moving) counters noted turns i l e) ∙ w .rest);
+        parted = w .parted;
+        rest =
+            rw (← one-idle (w .few))
+            (sym (idle-at work headers buckets g counts cells next t (w .made) (w .serials) moving (i - moving) counters noted turns i l (omega (arith, w .parted .together member b))) ∙ w .rest);
       }
 
-  module _ (w : Here) (l : i < length turns) (first k : ℕ) (un : Unfinished first k) (mv : Move) (u x : List ℕ) (e : (mv, (u, x)) ≡ moveAt work headers buckets g counts cells next t made (w .serials) moving (i - moving) counters noted member k) (same : length u ≡ length t) where
-    go-on : turnsOf work headers buckets g counts cells (crewBy work headers buckets g counts cells next t made (w .serials) moving (i - moving) counters noted member first k (mv, (u, x))) (drop (i + 1) turns) .seen ≡ turnsOf work headers buckets g counts cells start turns .seen
-    go-on =
-        ap (λ (o : Move × (List ℕ × List ℕ)). turnsOf work headers buckets g counts cells (crewBy work headers buckets g counts cells next t made (w .serials) moving (i - moving) counters noted member first k o) (drop (i + 1) turns) .seen) e
-        ∙ sym (move-at work headers buckets g counts cells next t made (w .serials) moving (i - moving) counters noted turns i first k l (un .begins) (un .counted) (un .placed) (un .unfinished))
-        ∙ w .rest
+  module _ (w : Here) (l : i < length turns) (n first k : ℕ) (un : Unfinished n first k) (mv : Move) (u x : List ℕ) (e : (mv, (u, x)) ≡ workMoveOf work next buckets t g counters n wants (getD cells k 0) (getD noted member 0)) (same : length u ≡ length t) where
+    made-so-far : n ≡ getD (w .made) member 0
+    made-so-far = omega (arith, un .so-far, w .parted .together member (un .counted))
 
-    pub work-tried : mv ≡ move.Idle → Then next u made moving x noted
+    -- the crew behind the move
+    abbrev moved-on : Crew
+    moved-on = after mv u x (notedBy mv (eqb (n + 1) wants) noted x member (getD cells first 0)) (crewAt next t (w .made) (w .serials) moving (i - moving) counters noted) member k
+
+    go-on : turnsOf work headers buckets g counts cells moved-on (drop (i + 1) turns) .seen ≡ turnsOf work headers buckets g counts cells start turns .seen
+    go-on =
+        let f = subst (λ (j : ℕ). (mv, (u, x)) ≡ workMoveOf work next buckets t g counters j wants (getD cells k 0) (getD noted member 0)) made-so-far e in
+        let p = subst (λ (j : ℕ). Placed work first j wants k) made-so-far (un .placed) in
+        rw made-so-far
+        (ap (λ (o : Move × (List ℕ × List ℕ)). turnsOf work headers buckets g counts cells (crewBy work headers buckets g counts cells next t (w .made) (w .serials) moving (i - moving) counters noted member first k o) (drop (i + 1) turns) .seen) f
+        ∙ sym (move-at work headers buckets g counts cells next t (w .made) (w .serials) moving (i - moving) counters noted turns i first k l (un .begins) (omega (arith, un .counted, w .parted .made-length)) p (omega (arith, un .so-far, un .unfinished, made-so-far)))
+        ∙ w .rest)
+
+    pub work-tried : mv ≡ move.Idle → Then next u left moving x noted
     work-tried f =
         record {
+          made = w .made;
           serials = w .serials;
           place = omega arith;
           few = omega (arith, w .few);
           words = same ∙ w .words;
-          made-length = w .made-length;
+          parted = w .parted;
           rest = rw (← one-idle (w .few)) (rw f at go-on);
         }
 
-    pub work-took : (next′ s : ℕ) → mv ≡ move.Took next′ s → Then next′ u (set made member (so-far + 1)) (moving + 1) x (notedAt (eqb (so-far + 1) wants) noted x member (getD cells first 0))
+    pub work-took : (next′ s : ℕ) → mv ≡ move.Took next′ s → Then next′ u (set left member (more - 1)) (moving + 1) x (notedAt (eqb (n + 1) wants) noted x member (getD cells first 0))
     work-took next′ s f =
         record {
+          made = moved (w .made) member;
           serials = set (w .serials) k s;
           place = omega arith;
           few = omega (arith, w .few);
           words = same ∙ w .words;
-          made-length = length-set made member (so-far + 1) ∙ w .made-length;
+          parted = one-made work counts (w .made) left member (w .parted) (un .counted) (un .unfinished);
           rest = rw (← same-idle) (rw f at go-on);
         }
 
-    pub work-moved : mv ≡ move.Moved → Then next u (set made member (so-far + 1)) (moving + 1) x noted
+    pub work-moved : mv ≡ move.Moved → Then next u (set left member (more - 1)) (moving + 1) x noted
     work-moved f =
         record {
+          made = moved (w .made) member;
           serials = w .serials;
           place = omega arith;
           few = omega (arith, w .few);
           words = same ∙ w .words;
-          made-length = length-set made member (so-far + 1) ∙ w .made-length;
+          parted = one-made work counts (w .made) left member (w .parted) (un .counted) (un .unfinished);
           rest = rw (← same-idle) (rw f at go-on);
         }
 
   -- past the last turn: what the loop hands back
-  pub work-done : (w : Here) → length turns ≤ i → turnsOf work headers buckets g counts cells start turns .seen ≡ crewAt next t made (w .serials) moving (length turns - moving) counters noted
-  work-done w l =
+  pub work-done : (w : Here) → length turns ≤ i → (made : List ℕ) → Others work counts left made 16
+      → turnsOf work headers buckets g counts cells start turns .seen ≡ crewAt next t made (w .serials) moving (length turns - moving) counters noted
+  work-done w l made o =
       let e : i ≡ length turns = omega (arith, w .place) in
-      sym (w .rest) ∙ turns-done work headers buckets g counts cells next t made (w .serials) moving (i - moving) counters noted turns i l
-      ∙ ap (λ (n : ℕ). crewAt next t made (w .serials) moving (n - moving) counters noted) e
+      rw (made-is work counts (w .made) left made (w .parted) o)
+      (sym (w .rest) ∙ turns-done work headers buckets g counts cells next t (w .made) (w .serials) moving (i - moving) counters noted turns i l
+      ∙ ap (λ (n : ℕ). crewAt next t (w .made) (w .serials) moving (n - moving) counters noted) e)

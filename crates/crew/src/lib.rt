@@ -16,6 +16,7 @@ ghost use Rattle.model.specs.Refusals.{first};
 ghost use Rattle.model.specs.Crew.{addsOf, crewRules, crewRefused, crewOf};
 ghost use Rattle.crew_plan.specs.Starts.{Begun};
 ghost use Rattle.crew_plan.specs.Fine.{CrewFine};
+ghost use Rattle.crew.specs.Moves.{Others};
 ghost use Rattle.crew.specs.Model.{placeOf, tryMoveOf, makeMoveOf, takeTurnsOf, workBy, finishOf, crewRunOf};
 
 // What a turn comes to; a take hands on the next serial and the one it took.
@@ -58,7 +59,7 @@ fn crew_check(
 // ---- one turn
 
 // Where in the run of cells a member's next move is: the next cell it has not taken, or the last it still holds.
-pub fn place(start: usize, n: usize, count: usize) -> usize
+fn place(start: usize, n: usize, count: usize) -> usize
     requires { ⌜ (start + count ≤ 256) × (n < 2 * count) ⌝ }
     ensures { λ r. ⌜ r ≡ placeOf start n count ⌝ }
 {
@@ -113,65 +114,7 @@ pub fn make_move(
     Move::Moved
 }
 
-// ---- all turns
-
-// The turns in order, from a crew that holds nothing. Its moves stay here and a turn gets numbers: an idle turn stores
-// nothing.
-// No serial is kept: a release compares it with nothing, since only its holder ever names a cell.
-fn take_turns(
-    head: Head,
-    table: &mut [u32],
-    health: &[u8],
-    counts: &[u32],
-    cells: &[u32],
-    starts: &[usize; 16],
-    turns: &[u32],
-) -> Worked
-    requires { ⌜ CrewFine head (length (now table)) (length (now health)) (now counts) (now cells) (now turns)
-        × Begun (now counts) (now starts) ⌝ }
-    ensures { λ r. ⌜ (r, now (table .exit))
-        ≡ takeTurnsOf head (now (table .entry)) (now (health .entry))
-        (now (counts .entry)) (now (cells .entry)) (now (turns .entry)) ⌝ }
-{
-    let mut made = [0usize; 16];
-    let mut next = head.next;
-    let mut moving: usize = 0;
-    let mut i: usize = 0;
-    while i < turns.len() {
-        let m = turns[i] as usize;
-        i += 1;
-        let n = made[m];
-        let count = counts[m] as usize;
-        if 2 * count <= n {
-            continue;
-        }
-        let k = place(starts[m], n, count);
-        let once_more = n + 1;
-        match make_move(head, next, table, health, n < count, cells[k]) {
-            Move::Idle => continue,
-            Move::Took(after, _) => {
-                next = after;
-                made[m] = once_more;
-                moving += 1;
-                continue;
-            }
-            Move::Moved => {
-                made[m] = once_more;
-                moving += 1;
-                continue;
-            }
-        }
-    }
-    let idle = turns.len() - moving;
-    Worked {
-        next,
-        moving,
-        idle,
-        made,
-    }
-}
-
-// ---- the reply
+// ---- the moves that a member has made, and those that it has left
 
 // A member's count; past the last member it is 0.
 fn count_of(counts: &[u32], m: usize) -> usize
@@ -181,15 +124,6 @@ fn count_of(counts: &[u32], m: usize) -> usize
         return counts[m] as usize;
     }
     0
-}
-
-fn lesser(a: usize, b: usize) -> usize
-    ensures { λ r. ⌜ r ≡ min a b ⌝ }
-{
-    if a < b {
-        return a;
-    }
-    b
 }
 
 // How much a is beyond b.
@@ -210,6 +144,92 @@ fn adds_of(adding: bool, count: usize) -> usize
         return count;
     }
     0
+}
+
+// Of all moves of each member, those that are not among these: what is left beside what is made, and what is made
+// beside what is left.
+pub fn other_moves(counts: &[u32], moves: &[usize; 16], adding: bool) -> [usize; 16]
+    ensures { λ r. ⌜ Others (workBy adding) (now (counts .entry)) (now (moves .entry)) r 16 ⌝ }
+{
+    let mut others = [0usize; 16];
+    let mut m = 0;
+    while m < 16 {
+        let count = count_of(counts, m);
+        others[m] = beyond(2 * count + adds_of(adding, count), moves[m]);
+        m += 1;
+    }
+    others
+}
+
+// ---- all turns
+
+// The turns in order, from a crew that holds nothing. What moves are left is counted down here and a turn gets numbers:
+// of a member that has finished, one number is read and nothing is stored.
+// No serial is kept: a release compares it with nothing, since only its holder ever names a cell.
+fn take_turns(
+    head: Head,
+    table: &mut [u32],
+    health: &[u8],
+    counts: &[u32],
+    cells: &[u32],
+    starts: &[usize; 16],
+    turns: &[u32],
+) -> Worked
+    requires { ⌜ CrewFine head (length (now table)) (length (now health)) (now counts) (now cells) (now turns)
+        × Begun (now counts) (now starts) ⌝ }
+    ensures { λ r. ⌜ (r, now (table .exit))
+        ≡ takeTurnsOf head (now (table .entry)) (now (health .entry))
+        (now (counts .entry)) (now (cells .entry)) (now (turns .entry)) ⌝ }
+{
+    let none = [0usize; 16];
+    let mut left = other_moves(counts, &none, false);
+    let mut next = head.next;
+    let mut moving: usize = 0;
+    let mut i: usize = 0;
+    while i < turns.len() {
+        let m = turns[i] as usize;
+        i += 1;
+        let more = left[m];
+        if more == 0 {
+            continue;
+        }
+        let count = counts[m] as usize;
+        let n = 2 * count - more;
+        let k = place(starts[m], n, count);
+        match make_move(head, next, table, health, n < count, cells[k]) {
+            Move::Idle => continue,
+            Move::Took(after, _) => {
+                next = after;
+                left[m] = more - 1;
+                moving += 1;
+                continue;
+            }
+            Move::Moved => {
+                left[m] = more - 1;
+                moving += 1;
+                continue;
+            }
+        }
+    }
+    let idle = turns.len() - moving;
+    let made = other_moves(counts, &left, false);
+    Worked {
+        next,
+        moving,
+        idle,
+        made,
+    }
+}
+
+// ---- the reply
+
+fn lesser(a: usize, b: usize) -> usize
+    ensures { λ r. ⌜ r ≡ min a b ⌝ }
+{
+    if a < b {
+        return a;
+    }
+    b
 }
 
 // A member's first moves are its takes, and those beyond its takes and adds are its releases.

@@ -1,5 +1,5 @@
 -- The crew at work as the code makes it: its last checks, where a member stands, what is noted, and what the loop hands back.
-use Prim.Native.Nat.{ℕ, _-_}
+use Prim.Native.Nat.{ℕ, _+_, _*_, _-_}
 use mathlib.Core.List.{List, _∷_, _++_}
 use mathlib.Core.Bool.{Bool}
 use lib.Dec.{ltb, eqb}
@@ -21,9 +21,9 @@ workFaultOf inside counts cells turns counters =
     if eqb (length counters) inside then first (badLimits counts cells turns ∷ (badLists (length counts) 0 inside counts cells ++ badTurns (length counts) 0 turns))
     else Fault BadShape
 
--- the move of document 01's run at the same place
-unfoldable pub standOf : ℕ → ℕ → ℕ
-standOf n count = if ltb n count then n else n - count
+-- where in the run of cells a member's move number n is: takes in order, then adds in order, then releases, last first
+unfoldable pub workPlaceOf : ℕ → ℕ → ℕ → ℕ
+workPlaceOf start n count = if ltb n count then start + n else if ltb n (2 * count) then start + (n - count) else start + (3 * count - 1 - n)
 
 unfoldable pub noteOf : Bool → ℕ → List ℕ → ℕ → ℕ
 noteOf full before counters low = if full then getD counters low 0 else before

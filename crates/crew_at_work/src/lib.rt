@@ -10,14 +10,15 @@ use types::Head;
 use types::Refusal;
 ghost use mathlib.Core.Path.{_≡_};
 ghost use Prim.Native.Nat.{_+_, _*_, _-_, _/_, _<_, _≤_};
-ghost use lib.ListN.{length};
+ghost use lib.ListN.{length, getD};
 ghost use Rattle.model.specs.Arena.{cellsOf};
 ghost use Rattle.model.specs.Refusals.{first};
 ghost use Rattle.model.specs.Crew.{adds, addedTo, crewAtWorkRules, crewAtWorkOf};
 ghost use Rattle.crew_plan.specs.Starts.{Begun};
 ghost use Rattle.crew_plan.specs.Fine.{CrewFine};
 ghost use Rattle.crew.specs.Model.{workMoveOf};
-ghost use Rattle.crew_at_work.specs.Model.{workFaultOf, standOf, noteOf, workTurnsOf, workRunOf};
+ghost use Rattle.crew_at_work.specs.Idle.{OfSixteen, IdleTo};
+ghost use Rattle.crew_at_work.specs.Model.{workFaultOf, workPlaceOf, noteOf, workTurnsOf, workRunOf};
 
 // ---- the checks
 
@@ -56,14 +57,19 @@ fn work_check(
 
 // ---- one turn
 
-// The move of document 01's run that is at the same place: an add is where the take of its cell was.
-fn stand(n: usize, count: usize) -> usize
-    ensures { λ r. ⌜ r ≡ standOf n count ⌝ }
+// The cell of a member's next move: the next that it has not taken, the next that it has not added to, or the last that
+// it still holds. It is read where the move is told, so that no place is chosen twice.
+fn cell_of(cells: &[u32], start: usize, n: usize, count: usize) -> u32
+    requires { ⌜ (start + count ≤ length (now cells)) × ((length (now cells) ≤ 256) × (n < 3 * count)) ⌝ }
+    ensures { λ r. ⌜ r ≡ getD (now (cells .entry)) (workPlaceOf start n count) 0 ⌝ }
 {
     if n < count {
-        return n;
+        return cells[start + n];
     }
-    n - count
+    if n < 2 * count {
+        return cells[start + (n - count)];
+    }
+    cells[start + (3 * count - 1 - n)]
 }
 
 // What stands noted for a member behind a take: the counter of its lowest cell, if it holds all now.
@@ -117,7 +123,23 @@ fn work_move(
 
 // ---- all turns
 
-// The turns in order, as `crew` has them, with the values noted beside the moves.
+// The first turn from here on whose member has a move left, or the end: those before it are idle.
+fn pass_idle(turns: &[u32], left: &[usize; 16], i: usize) -> usize
+    requires { ⌜ (i ≤ length (now turns)) × OfSixteen (now turns) ⌝ }
+    ensures { λ r. ⌜ IdleTo (now (turns .entry)) (now (left .entry)) i r ⌝ }
+{
+    let mut j = i;
+    while j < turns.len() {
+        if left[turns[j] as usize] != 0 {
+            return j;
+        }
+        j += 1;
+    }
+    j
+}
+
+// The turns in order, as `crew` has them, with the values noted beside the moves. Idle turns in a row have a loop of
+// their own, since the loop of moves has more lent runs than registers.
 fn work_turns(
     head: Head,
     table: &mut [u32],
@@ -134,7 +156,8 @@ fn work_turns(
         ≡ workTurnsOf head (now (table .entry)) (now (health .entry))
         (now (counts .entry)) (now (cells .entry)) (now (turns .entry)) (now (counters .entry)) ⌝ }
 {
-    let mut made = [0usize; 16];
+    let none = [0usize; 16];
+    let mut left = crew::other_moves(counts, &none, true);
     let mut noted = [0u16; 16];
     let mut next = head.next;
     let mut moving: usize = 0;
@@ -142,32 +165,34 @@ fn work_turns(
     while i < turns.len() {
         let m = turns[i] as usize;
         i += 1;
-        let n = made[m];
-        let count = counts[m] as usize;
-        if 3 * count <= n {
+        let more = left[m];
+        if more == 0 {
+            i = pass_idle(turns, &left, i);
             continue;
         }
+        let count = counts[m] as usize;
+        let n = 3 * count - more;
         let start = starts[m];
-        let cell = cells[crew::place(start, stand(n, count), count)];
+        let cell = cell_of(cells, start, n, count);
         let value = noted[m];
-        let once_more = n + 1;
         match work_move(head, next, table, health, counters, n, count, cell, value) {
             Move::Idle => continue,
             Move::Took(after, _) => {
                 next = after;
-                made[m] = once_more;
+                left[m] = more - 1;
                 moving += 1;
-                noted[m] = note(once_more == count, value, counters, cells[start]);
+                noted[m] = note(n + 1 == count, value, counters, cells[start]);
                 continue;
             }
             Move::Moved => {
-                made[m] = once_more;
+                left[m] = more - 1;
                 moving += 1;
                 continue;
             }
         }
     }
     let idle = turns.len() - moving;
+    let made = crew::other_moves(counts, &left, true);
     Worked {
         next,
         moving,

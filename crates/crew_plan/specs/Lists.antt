@@ -1,12 +1,14 @@
 -- Laws of the lent lists: one turn and the end of each recursion over them.
 use Prim.Native.Nat.{ℕ, suc, _+_, _-_, _≤_, _<_}
-use mathlib.Core.Path.{_≡_}
-use mathlib.Core.List.{List}
-use mathlib.Core.Bool.{true, not, _&&_}
+use mathlib.Core.Path.{_≡_, refl}
+use mathlib.Core.List.{List, [], _∷_}
+use mathlib.Core.Bool.{Bool, true, false, not, _&&_, and-true}
 use native.Mathlib.Omega.{arith}
 use lib.Dec.{ltb, leb}
 use lib.ListN.{length, getD, take, drop, drop-of-length-le}
+use borrow.Author.Tests.{leb-true, lt-leb}
 use Rattle.choice.specs.Choice.{if_then_else_}
+use Rattle.choice.specs.Pick.{both}
 use Rattle.model.specs.Refusals.{first}
 use Rattle.model.specs.Crew.{total, startOf, allWithin, risesFrom, badLists, badTurns}
 use Rattle.types.specs.declared.Check.the-variants.{Fine, Fault}
@@ -15,13 +17,21 @@ use Rattle.laws.specs.Lists.{drop-one}
 
 -- ---- counts
 
-pub within-at : (most : ℕ) (l : List ℕ) (i : ℕ) → i < length l → allWithin most (drop i l) ≡ (leb (getD l i 0) most && allWithin most (drop (i + 1) l))
-unfolding allWithin
-within-at most l i b = rw (drop-one l i b)
+-- the scan goes on behind a number: those before it, it, and those behind it
+and-turn : (a b c : Bool) → (b && a && c) ≡ (a && (b && c))
+and-turn true true c = refl
+and-turn true false c = refl
+and-turn false true c = refl
+and-turn false false c = refl
 
-pub within-end : (most : ℕ) (l : List ℕ) (i : ℕ) → length l ≤ i → allWithin most (drop i l) ≡ true
+pub within-more : (fit : Bool) (most : ℕ) (l : List ℕ) (i : ℕ) → i < length l
+    → (leb (getD l i 0) most && fit && allWithin most (drop (i + 1) l)) ≡ (fit && allWithin most (drop i l))
 unfolding allWithin
-within-end most l i b = rw (drop-of-length-le l b)
+within-more fit most l i b = rw (drop-one l i b) (and-turn fit (leb (getD l i 0) most) (allWithin most (drop (i + 1) l)))
+
+pub within-end : (fit : Bool) (most : ℕ) (l : List ℕ) (i : ℕ) → length l ≤ i → (fit && allWithin most (drop i l)) ≡ fit
+unfolding allWithin
+within-end fit most l i b = rw (drop-of-length-le l b) (and-true fit)
 
 pub total-at : (l : List ℕ) (i : ℕ) → i < length l → total (drop i l) ≡ getD l i 0 + total (drop (i + 1) l)
 unfolding total
@@ -67,3 +77,11 @@ turns-at members i turns b = rw (drop-one turns i b)
 pub turns-end : (members i : ℕ) (turns : List ℕ) → length turns ≤ i → first (badTurns members i (drop i turns)) ≡ Fine
 unfolding first badTurns
 turns-end members i turns b = rw (drop-of-length-le turns b)
+
+-- turns that all keep below the number of members name one each
+pub turns-within : (members i : ℕ) (turns : List ℕ) → 1 ≤ members → allWithin (members - 1) turns ≡ true → first (badTurns members i turns) ≡ Fine
+unfolding first badTurns allWithin
+turns-within members i [] some e = refl
+turns-within members i (m ∷ ms) some e =
+    let b = both (leb m (members - 1)) (allWithin (members - 1) ms) e in
+    rw (lt-leb members m (omega (arith, leb-true m (members - 1) (b .0)))) (turns-within members (i + 1) ms some (b .1))

@@ -4,7 +4,9 @@
 use types::Check;
 use types::Refusal;
 ghost use mathlib.Core.Path.{_≡_};
+ghost use mathlib.Core.Bool.{_&&_};
 ghost use mathlib.Core.List.{[], _∷_, _++_};
+ghost use lib.Dec.{leb};
 ghost use Prim.Native.Nat.{_+_, _≤_};
 ghost use lib.ListN.{length, take, drop};
 ghost use Rattle.model.specs.Refusals.{first};
@@ -13,18 +15,27 @@ ghost use Rattle.crew_plan.specs.Starts.{Begun};
 
 // ---- the checks: limits, then lists by member, then turns by position
 
-// Whether each count keeps its limit; the scan ends at the first that does not.
-fn counts_fit(counts: &[u32]) -> bool
-    ensures { λ r. ⌜ r ≡ allWithin 64 (now (counts .entry)) ⌝ }
+// Whether a number keeps the limit, and those before it did.
+fn still_within(before: bool, n: u32, most: u32) -> bool
+    ensures { λ r. ⌜ r ≡ (leb n most && before) ⌝ }
 {
+    if most < n {
+        return false;
+    }
+    before
+}
+
+// Whether each of these numbers keeps the limit. The scan ends at no fault, so that the compiler takes several at once.
+fn all_within(most: u32, list: &[u32]) -> bool
+    ensures { λ r. ⌜ r ≡ allWithin most (now (list .entry)) ⌝ }
+{
+    let mut fit = true;
     let mut i = 0;
-    while i < counts.len() {
-        if 64 < counts[i] {
-            return false;
-        }
+    while i < list.len() {
+        fit = still_within(fit, list[i], most);
         i += 1;
     }
-    true
+    fit
 }
 
 // How many cells the lists have in all. So few counts of 32 bits cannot wrap.
@@ -51,7 +62,7 @@ fn limits_fault(counts: &[u32], cells: &[u32], turns: &[u32]) -> Check
     if 16 < counts.len() {
         return bad;
     }
-    if counts_fit(counts) {
+    if all_within(64, counts) {
         let all = total_of(counts);
         if 256 < all {
             return bad;
@@ -109,7 +120,7 @@ fn lists_fault(inside: u32, counts: &[u32], cells: &[u32]) -> Check
 }
 
 // The first turn that names no member.
-fn turns_fault(members: usize, turns: &[u32]) -> Check
+fn first_stray(members: usize, turns: &[u32]) -> Check
     ensures { λ r. ⌜ r ≡ first (badTurns members 0 (now (turns .entry))) ⌝ }
 {
     let mut i = 0;
@@ -122,9 +133,21 @@ fn turns_fault(members: usize, turns: &[u32]) -> Check
     Check::Fine
 }
 
+// The same, with the answer at once where all name one.
+fn turns_fault(members: usize, turns: &[u32]) -> Check
+    requires { ⌜ (1 ≤ members) × (members ≤ 16) ⌝ }
+    ensures { λ r. ⌜ r ≡ first (badTurns members 0 (now (turns .entry))) ⌝ }
+{
+    if all_within((members - 1) as u32, turns) {
+        return Check::Fine;
+    }
+    first_stray(members, turns)
+}
+
 // Lists, and then turns.
 fn names_fault(inside: u32, counts: &[u32], cells: &[u32], turns: &[u32]) -> Check
-    requires { ⌜ (length (now counts) ≤ 16) × (length (now cells) ≡ total (now counts)) ⌝ }
+    requires { ⌜ (1 ≤ length (now counts))
+        × ((length (now counts) ≤ 16) × (length (now cells) ≡ total (now counts))) ⌝ }
     ensures { λ r. ⌜ r
         ≡ first (badLists (length (now (counts .entry))) 0 inside (now (counts .entry)) (now (cells .entry))
         ++ badTurns (length (now (counts .entry))) 0 (now (turns .entry))) ⌝ }

@@ -10,9 +10,10 @@ use borrow.Author.Tests.{ltb-false}
 use Rattle.model.specs.Arena.{cellsOf, holdsOf}
 use Rattle.model.specs.Refusals.{Rule, first}
 use Rattle.model.specs.Checks.{badShape, badHealth, badScript, scriptRules}
-use Rattle.model.specs.Foreign.{stepsIn, flowOf}
+use Rattle.model.specs.Foreign.{stepsIn, flowOf, setting, runStepsOf, boundaryOf}
 use Rattle.types.specs.declared.Check.the-variants.{Fine}
 use Rattle.model.specs.Calls.{given}
+use Rattle.types.specs.declared.Flow.{Flow}
 use Rattle.types.specs.declared.Head.{Head}
 use Rattle.types.specs.declared.Hold.{Hold}
 use Rattle.foreign.specs.declared.Scope.{Scope}
@@ -80,3 +81,10 @@ pub scope-none : (s : Scope) (h : Head) (script held : List ℕ) (taken : List (
     → settingOf s script held taken 0 ≡ given h script (holdsOf held)
 scope-none s h script held taken e =
     scope-given s h script (guardsOf held taken 0) e ∙ ap (given h script) (guards-none held taken)
+
+-- with an empty held list nothing is protected
+pub alone-free : (s : Scope) (h : Head) (script held : List ℕ) (f : Flow) (t g : List ℕ) → s ≡ scopeOf h (length script) → length held ≡ 0
+    → boundaryOf (given h script (holdsOf held)) f t g .seen ≡ runStepsOf (s .steps - f .place) (setting (s .headers) (s .cells) script []) f t g .seen
+unfolding boundaryOf holdsOf
+alone-free s h script [] f t g e z = rw e
+alone-free s h script (x ∷ xs) f t g e z = absurd (omega arith)

@@ -3,13 +3,15 @@
 use Prim.Native.Nat.{ℕ, zero, suc, _+_, _*_, _-_, _/_, _%_, _≤_, _<_}
 use mathlib.Core.Path.{_≡_, refl, sym, ap, _∙_}
 use mathlib.Core.List.{List}
-use mathlib.Core.Bool.{false}
+use mathlib.Core.Bool.{Bool, true, false}
 use mathlib.Core.Logic.{_≢_}
 use native.Mathlib.Omega.{arith}
 use native.Mathlib.Decide.{ℕ-discrete, decLt}
+use lib.Dec.{ltb}
 use lib.ListN.{length, getD, set, drop, replicate, getD-replicate}
 use lib.Seq.{getD-set-same, getD-set-other}
-use borrow.Author.Tests.{ne-eqb}
+use borrow.Author.Tests.{ne-eqb, ltb-false}
+use Rattle.choice.specs.Choice.{if_then_else_}
 use Rattle.model.specs.Arena.{holdOf, holdsOf, sameHold, isIn}
 use Rattle.types.specs.declared.Hold.{Hold}
 use Rattle.laws.specs.Checks.{is-in-at, is-in-end}
@@ -68,6 +70,14 @@ pub none-noted : (list : List ℕ) (k : ℕ) → length list ≤ 3 * k + 2 → N
 none-noted list k l =
     record { low = λ c. let e : markOf (replicate 256 0) c ≡ 0 = getD-replicate 256 (c % 256) 0 0 (omega arith) in omega (arith, e); from = λ i h b. absurd (omega arith) }
 
+-- ---- how a list of n leases is marked: past a byte's numbers as a whole
+
+unfoldable pub fillingOf : ℕ → ℕ
+fillingOf n = if ltb 255 n then 1 else 0
+
+unfoldable pub notingOf : ℕ → ℕ
+notingOf n = if ltb 255 n then 0 else n
+
 -- ---- a scan may start where the first of its cell can stand
 
 not-same : (c s : ℕ) (l : Hold) → c ≢ l .cell → sameHold (holdOf c s) l ≡ false
@@ -104,3 +114,21 @@ front list = record { low = λ c. omega (arith, one c); from = λ i l b. (omega 
   where
     one : (c : ℕ) → markOf (replicate 256 1) c ≡ 1
     one c = getD-replicate 256 (c % 256) 1 0 (omega arith)
+
+-- the marks of a list before any is noted, and how many are to be: a byte holds each
+pub marks-start : (list : List ℕ) → Noted (replicate 256 (fillingOf (length list / 3))) list (notingOf (length list / 3)) × (notingOf (length list / 3) ≤ 255)
+unfolding fillingOf notingOf
+marks-start list = go (ltb 255 (length list / 3)) refl
+  where
+    go : (b : Bool) → ltb 255 (length list / 3) ≡ b
+        → Noted (replicate 256 (if b then 1 else 0)) list (if b then 0 else length list / 3) × ((if b then 0 else length list / 3) ≤ 255)
+    go true e = (front list, omega arith)
+    go false e = (none-noted list (length list / 3) (omega arith), ltb-false _ _ e)
+
+pub noting-few : (list : List ℕ) → 3 * notingOf (length list / 3) ≤ length list
+unfolding notingOf
+noting-few list = go (ltb 255 (length list / 3))
+  where
+    go : (b : Bool) → 3 * (if b then 0 else length list / 3) ≤ length list
+    go true = omega arith
+    go false = omega arith

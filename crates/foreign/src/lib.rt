@@ -16,16 +16,16 @@ ghost use mathlib.Core.Path.{_≡_};
 ghost use mathlib.Core.Bool.{true};
 ghost use mathlib.Core.List.{[], _∷_, _++_};
 ghost use Prim.Native.Nat.{_+_, _*_, _-_, _/_, _<_, _≤_};
-ghost use lib.ListN.{length};
+ghost use lib.ListN.{length, replicate};
 ghost use Rattle.model.specs.Arena.{shapeFits, isIn, cellsOf, headOf, holdsOf};
 ghost use Rattle.model.specs.Refusals.{first};
 ghost use Rattle.model.specs.Checks.{badScript, badHeld, scriptRules};
 ghost use Rattle.model.specs.Foreign.{setting, protecting, flowOf, stepTakeOf, stepReleaseOf};
 ghost use Rattle.model.specs.Foreign.{stepWaitersOf, stepHealthOf, stepOf, runStepsOf, boundaryOf};
-ghost use Rattle.model.specs.Calls.{scriptReply, refusedAtOnce, environmentOf};
+ghost use Rattle.model.specs.Calls.{scriptReply, given, refusedAtOnce, environmentOf};
 ghost use Rattle.foreign.specs.Model.{pairsOf, guardsOf, Room, RoomIn, scopeOf, settingOf, runOnceOf};
 ghost use Rattle.foreign.specs.Laws.{FlowBound};
-ghost use Rattle.foreign.specs.Marks.{Marked};
+ghost use Rattle.foreign.specs.Marks.{Marked, fillingOf, notingOf};
 ghost use Rattle.foreign.specs.Fine.{ScriptFine};
 
 // What the parts of a call are given and never change: the arena's sizes, its boot number, its number of cells, and the
@@ -83,22 +83,38 @@ fn is_in_pairs(taken: &[[u32; 2]; 64], n: usize, hold: Hold) -> bool
     false
 }
 
-// For each remainder of a cell number by 256: 0 where no listed lease has it, else one more than the position of the
-// first that has. Noted from the end, so that the first stays; a list past a byte's numbers is marked as a whole.
-fn marks_of(held: &[u32]) -> [u8; 256]
-    ensures { λ r. ⌜ Marked r (now (held .entry)) ⌝ }
+// Of a list of n leases: what all marks are before any is noted, and how many are noted.
+fn filling(n: usize) -> u8
+    ensures { λ r. ⌜ r ≡ fillingOf n ⌝ }
 {
-    if 255 < held.len() / 3 {
-        return [1; 256];
+    if 255 < n {
+        return 1;
     }
-    let mut marks = [0; 256];
-    let mut i = held.len() / 3;
+    0
+}
+
+fn noting(n: usize) -> usize
+    ensures { λ r. ⌜ r ≡ notingOf n ⌝ }
+{
+    if 255 < n {
+        return 0;
+    }
+    n
+}
+
+// Notes marks, where none is yet. For each remainder of a cell number by 256: 0 where no listed lease has it, else one
+// more than the position of the first that has. Noted from the end, so that the first stays; a list past a byte's
+// numbers is marked as a whole.
+fn note_marks(held: &[u32], marks: &mut [u8; 256])
+    requires { ⌜ now marks ≡ replicate 256 (fillingOf (length (now held) / 3)) ⌝ }
+    ensures { λ _. ⌜ Marked (now (marks .exit)) (now (held .entry)) ⌝ }
+{
+    let mut i = noting(held.len() / 3);
     while 0 < i {
         i -= 1;
         let at = (held[3 * i] % 256) as usize;
         marks[at] = (i + 1) as u8;
     }
-    marks
 }
 
 // Whether a lease is held: without a mark it is not, and no lease is looked at; else up to the first match.
@@ -228,12 +244,32 @@ fn other_step(
         ≡ stepOf (setting headers cells [] []) next (now (table .entry)) (now (health .entry)) kind place number
         .seen ⌝ }
 {
-    if kind == 0 {
-        return Stepped { next, dropped: 0 };
+    if 2 < kind {
+        return late_step(headers, cells, next, table, health, kind, place, number);
     }
     if kind == 1 {
         return step_take(cells, next, table, place);
     }
+    Stepped { next, dropped: 0 }
+}
+
+// The same, of kind 3 or above.
+fn late_step(
+    headers: u32,
+    cells: u32,
+    next: u32,
+    table: &mut [u32],
+    health: &mut [u8],
+    kind: u32,
+    place: u32,
+    number: u32,
+) -> Stepped
+    requires { ⌜ (3 * cells ≤ length (now table)) × ((headers ≤ length (now health))
+        × ((2 < kind) × (kind ≡ 5 → ⊥))) ⌝ }
+    ensures { λ r. ⌜ (r, (now (table .exit), now (health .exit)))
+        ≡ stepOf (setting headers cells [] []) next (now (table .entry)) (now (health .entry)) kind place number
+        .seen ⌝ }
+{
     if kind == 3 {
         return step_waiters(cells, next, table, place, number);
     }
@@ -275,9 +311,95 @@ fn step(
     other_step(headers, cells, next, table, health, kind, place, number)
 }
 
+// 2, where nothing is protected.
+fn free_release(cells: u32, next: u32, table: &mut [u32], cell: u32, serial: u32) -> Stepped
+    requires { ⌜ 3 * cells ≤ length (now table) ⌝ }
+    ensures { λ r. ⌜ (r, now (table .exit)) ≡ stepReleaseOf cells [] next (now (table .entry)) cell serial .seen ⌝ }
+{
+    if arena::is_live(next, cells, table, cell, serial) {
+        arena::release(table, cell);
+        return Stepped { next, dropped: 0 };
+    }
+    Stepped { next, dropped: 1 }
+}
+
+// One step that does not end the boundary, where nothing is protected.
+fn free_step(
+    headers: u32,
+    cells: u32,
+    next: u32,
+    table: &mut [u32],
+    health: &mut [u8],
+    kind: u32,
+    place: u32,
+    number: u32,
+) -> Stepped
+    requires { ⌜ (3 * cells ≤ length (now table)) × ((headers ≤ length (now health)) × (kind ≡ 5 → ⊥)) ⌝ }
+    ensures { λ r. ⌜ (r, (now (table .exit), now (health .exit)))
+        ≡ stepOf (setting headers cells [] []) next (now (table .entry)) (now (health .entry)) kind place number
+        .seen ⌝ }
+{
+    if kind == 2 {
+        return free_release(cells, next, table, place, number);
+    }
+    other_step(headers, cells, next, table, health, kind, place, number)
+}
+
 // ---- a boundary
 
-// The steps from a place on, up to and including the next 5, or to the script's end, with marks on the held list.
+// The steps from a place on, up to and including the next 5, or to the script's end, where nothing is protected: no
+// list is looked at, and none is marked.
+fn run_free(
+    headers: u32,
+    cells: u32,
+    start: u32,
+    place: usize,
+    table: &mut [u32],
+    health: &mut [u8],
+    script: &[u32],
+    steps: usize,
+) -> Flow
+    requires { ⌜ Room headers cells (length (now table)) (length (now health)) 0 steps (length (now script))
+        × FlowBound steps (flowOf start place 0) ⌝ }
+    ensures { λ r. ⌜ (r, (now (table .exit), now (health .exit)))
+        ≡ runStepsOf (steps - place) (setting headers cells (now (script .entry)) [])
+        (flowOf start place 0) (now (table .entry)) (now (health .entry)) .seen ⌝ }
+{
+    let mut next = start;
+    let mut p = place;
+    let mut dropped = 0;
+    while p < steps {
+        let at = 3 * p;
+        let kind = script[at];
+        if kind == 5 {
+            return Flow {
+                next,
+                place: p + 1,
+                dropped,
+            };
+        }
+        let s = free_step(
+            headers,
+            cells,
+            next,
+            table,
+            health,
+            kind,
+            script[at + 1],
+            script[at + 2],
+        );
+        next = s.next;
+        dropped += s.dropped;
+        p += 1;
+    }
+    Flow {
+        next,
+        place: p,
+        dropped,
+    }
+}
+
+// The same, with protected leases and marks on the held list.
 fn run_marked(
     headers: u32,
     cells: u32,
@@ -300,7 +422,8 @@ fn run_marked(
         (guardsOf (now (held .entry)) (now (taken .entry)) n ++ (own ∷ [])))
         (flowOf start place before) (now (table .entry)) (now (health .entry)) .seen ⌝ }
 {
-    let marks = marks_of(held);
+    let mut marks = [filling(held.len() / 3); 256];
+    note_marks(held, &mut marks);
     let mut next = start;
     let mut p = place;
     let mut dropped = before;
@@ -625,7 +748,43 @@ pub fn environment_for_borrows(
     environment(head, table, health, script, place, held)
 }
 
-// The boundary of a call whose checks are fine.
+// The boundary of a call whose checks are fine: with an empty held list nothing is protected.
+fn run_alone(
+    head: Head,
+    table: &mut [u32],
+    health: &mut [u8],
+    script: &[u32],
+    place: usize,
+    held: &[u32],
+) -> Flow
+    requires { ⌜ ScriptFine head (length (now table)) (length (now health)) (length (now script)) place ⌝ }
+    ensures { λ r. ⌜ (r, (now (table .exit), now (health .exit)))
+        ≡ boundaryOf (given head (now (script .entry)) (holdsOf (now (held .entry)))) (flowOf (head .next) place 0)
+        (now (table .entry)) (now (health .entry)) .seen ⌝ }
+{
+    let scope = scope_of(head, script);
+    if held.len() == 0 {
+        return run_free(
+            scope.headers,
+            scope.cells,
+            head.next,
+            place,
+            table,
+            health,
+            script,
+            scope.steps,
+        );
+    }
+    let taken = [[0; 2]; 64];
+    let flow = Flow {
+        next: head.next,
+        place,
+        dropped: 0,
+    };
+    boundary(scope, flow, table, health, script, held, &taken, 0)
+}
+
+// What the call replies.
 fn run_once(
     head: Head,
     table: &mut [u32],
@@ -638,14 +797,7 @@ fn run_once(
     ensures { λ r. ⌜ (r, (now (table .exit), now (health .exit)))
         ≡ runOnceOf head (now (table .entry)) (now (health .entry)) (now (script .entry)) place (now (held .entry)) ⌝ }
 {
-    let scope = scope_of(head, script);
-    let taken = [[0; 2]; 64];
-    let flow = Flow {
-        next: head.next,
-        place,
-        dropped: 0,
-    };
-    let after = boundary(scope, flow, table, health, script, held, &taken, 0);
+    let after = run_alone(head, table, health, script, place, held);
     let run = Run {
         flow: after,
         attempts: 0,

@@ -2,10 +2,15 @@
 use Prim.Native.Nat.{ℕ}
 use mathlib.Core.Path.{_≡_, refl, ap, _∙_}
 use mathlib.Core.Bool.{Bool, true, false}
-use mathlib.Core.List.{List}
-use Rattle.model.specs.Arena.{serialRemains, spentTo, setCell, stateAt, issueOf}
+use mathlib.Core.List.{List, [], _∷_}
+use native.Mathlib.Omega.{arith}
+use lib.ListN.{length}
+use Rattle.model.specs.Arena.{serialRemains, spentTo, setCell, stateAt, issueOf, leasesOf}
 use Rattle.model.specs.Lock.{takeIn, takeOf, outcomeOf, answerOf}
 use Rattle.model.specs.Calls.{replied, acquireOf}
+use Rattle.model.specs.Checks.{badHeld, notLive}
+use Rattle.model.specs.Refusals.{first}
+use Rattle.types.specs.declared.Check.the-variants.{Fine}
 use Rattle.types.specs.declared.Head.{Head}
 use Rattle.types.specs.declared.Reply.{Reply}
 use Rattle.types.specs.declared.Serial.{Serial}
@@ -55,3 +60,9 @@ acquire-is n h t c = refl
 pub acquire-free : (n : ℕ) (h : Head) (t : List ℕ) (c : ℕ) → stateAt (h .next) t c ≡ state.Free
     → acquireOf n h t c .seen ≡ (claimReplyOf n (claimFreeOf h t c .0) c, claimFreeOf h t c .1)
 acquire-free n h t c e = acquire-is n h t c ∙ ap (λ (k : Claim × List ℕ). (claimReplyOf n (k .0) c, k .1)) (claim-free h t c e)
+
+-- an empty held list has no fault
+pub none-held : (h : Head) (t held : List ℕ) → length held ≡ 0 → Fine ≡ first (badHeld h t held)
+unfolding first notLive leasesOf
+none-held h t [] e = refl
+none-held h t (x ∷ xs) e = absurd (omega arith)

@@ -17,7 +17,7 @@ use types::Take;
 ghost use mathlib.Core.Path.{_≡_};
 ghost use mathlib.Core.Bool.{true};
 ghost use mathlib.Core.List.{[], _∷_};
-ghost use Prim.Native.Nat.{_+_, _*_, _<_, _≤_};
+ghost use Prim.Native.Nat.{_+_, _*_, _/_, _<_, _≤_};
 ghost use lib.ListN.{length, drop};
 ghost use Rattle.model.specs.Arena.{cellsOf, holdOf, holdsOf, leasesOf, setCell, shapeFits, isLive, sameHold, isIn};
 ghost use Rattle.model.specs.Refusals.{first};
@@ -28,6 +28,7 @@ ghost use Rattle.model.specs.Calls.{acquireOf, tryAcquireOf, dropLeaseOf, readP
 ghost use Rattle.model.specs.Calls.{releaseThenHandoffOf, foreignReleaseOf, acquirePreservingOf, dropPreservingOf};
 ghost use Rattle.laws.specs.Checks.{leaseIn};
 ghost use Rattle.lease.specs.Model.{claimAtOf, claimFreeOf, claimReplyOf};
+ghost use Rattle.lease.specs.Drop.{dropBehindOf, dropUnprotectedOf};
 
 // What a compare-and-set hands back: the changed head, and its answer.
 pub struct Claim {
@@ -149,6 +150,18 @@ pub fn lease_in(list: &[u32], i: usize) -> Lease
     }
 }
 
+// The same, by the place of its first word: a loop over a list goes by words, and multiplies at no turn.
+fn lease_from(list: &[u32], at: usize) -> Lease
+    requires { ⌜ (at + 2 < length (now list)) × (at ≡ 3 * (at / 3)) ⌝ }
+    ensures { λ r. ⌜ r ≡ leaseIn (now (list .entry)) (at / 3) ⌝ }
+{
+    Lease {
+        cell: list[at],
+        serial: list[at + 1],
+        boot: list[at + 2],
+    }
+}
+
 // Whether these are the words of a hold.
 pub fn same_hold(cell: u32, serial: u32, hold: Hold) -> bool
     ensures { λ r. ⌜ r ≡ sameHold (holdOf cell serial) hold ⌝ }
@@ -178,7 +191,14 @@ pub fn is_in_from(list: &[u32], from: usize, hold: Hold) -> bool
 pub fn is_in(list: &[u32], hold: Hold) -> bool
     ensures { λ r. ⌜ r ≡ isIn hold (holdsOf (now (list .entry))) ⌝ }
 {
-    is_in_from(list, 0, hold)
+    let mut at = 0;
+    while at + 2 < list.len() {
+        if same_hold(list[at], list[at + 1], hold) {
+            return true;
+        }
+        at += 3;
+    }
+    false
 }
 
 // Whether a lease of the head's own boot number is live.
@@ -194,23 +214,23 @@ fn live_fault(head: Head, table: &[u32], held: &[u32]) -> Check
     requires { ⌜ shapeFits head (length (now table)) ≡ true ⌝ }
     ensures { λ r. ⌜ r ≡ first (notLive head (now (table .entry)) 0 (leasesOf (now (held .entry)))) ⌝ }
 {
-    let mut i = 0;
-    while i < held.len() / 3 {
-        let lease = lease_in(held, i);
+    let mut at = 0;
+    while at + 2 < held.len() {
+        let lease = lease_from(held, at);
         if head.is_stale(lease) {
-            return Check::Fault(Refusal::StaleBoot(i));
+            return Check::Fault(Refusal::StaleBoot(at / 3));
         }
         if is_live(head, table, lease.cell, lease.serial) {
-            i += 1;
+            at += 3;
         } else {
-            return Check::Fault(Refusal::BadHeld(i));
+            return Check::Fault(Refusal::BadHeld(at / 3));
         }
     }
     Check::Fine
 }
 
-// A held list: its length, and then each lease by position.
-pub fn held_fault(head: Head, table: &[u32], held: &[u32]) -> Check
+// Any held list: its length, and then each lease by position.
+fn listed_fault(head: Head, table: &[u32], held: &[u32]) -> Check
     requires { ⌜ shapeFits head (length (now table)) ≡ true ⌝ }
     ensures { λ r. ⌜ r ≡ first (badHeld head (now (table .entry)) (now (held .entry))) ⌝ }
 {
@@ -222,6 +242,17 @@ pub fn held_fault(head: Head, table: &[u32], held: &[u32]) -> Check
         return Check::Fault(Refusal::BadHeld(n));
     }
     live_fault(head, table, held)
+}
+
+// A held list. An empty one costs a test: the call behind it is made for others only.
+pub fn held_fault(head: Head, table: &[u32], held: &[u32]) -> Check
+    requires { ⌜ shapeFits head (length (now table)) ≡ true ⌝ }
+    ensures { λ r. ⌜ r ≡ first (badHeld head (now (table .entry)) (now (held .entry))) ⌝ }
+{
+    if held.len() == 0 {
+        return Check::Fine;
+    }
+    listed_fault(head, table, held)
 }
 
 // A cell number of a call by cell.
@@ -424,18 +455,50 @@ pub fn acquire_preserving_borrows(head: Head, table: &mut [u32], held: &[u32], c
     }
 }
 
-// drop_lease, but not of a lease in the held list: that is refused with 13, and nothing changes.
+// drop_lease, but not of a lease in the held list: that is refused with 13, and nothing changes. With an empty list it
+// is drop_lease itself.
 pub fn drop_preserving_borrows(head: Head, table: &mut [u32], held: &[u32], lease: Lease) -> Reply
     ensures { λ r. ⌜ (r, now (table .exit))
         ≡ dropPreservingOf head (now (table .entry)) (now (held .entry)) lease .seen ⌝ }
 {
-    let check = held_lease_check(head, table, held, lease);
-    match check {
-        Check::Fault(refusal) => arena::refuse(head, refusal),
-        Check::Fine => {
-            let cell = lease.cell;
-            arena::release(table, cell);
-            arena::reply(head, 0, Answer::Done)
-        }
+    if held.len() == 0 {
+        return drop_lease(head, table, lease);
     }
+    if head.shape_fits(table.len()) {
+        let list = held_fault(head, table, held);
+        return match list {
+            Check::Fault(refusal) => arena::refuse(head, refusal),
+            Check::Fine => drop_behind(head, table, held, lease),
+        };
+    }
+    arena::refuse(head, Refusal::BadShape)
+}
+
+// Its second stage, once the held list is fine: 16 and 12.
+fn drop_behind(head: Head, table: &mut [u32], held: &[u32], lease: Lease) -> Reply
+    requires { ⌜ shapeFits head (length (now table)) ≡ true ⌝ }
+    ensures { λ r. ⌜ (r, now (table .exit)) ≡ dropBehindOf head (now (table .entry)) (now (held .entry)) lease ⌝ }
+{
+    let one = lease_fault(head, table, lease);
+    match one {
+        Check::Fault(refusal) => arena::refuse(head, refusal),
+        Check::Fine => drop_unprotected(head, table, held, lease),
+    }
+}
+
+// Its third stage, of a live lease: 13, or the release.
+fn drop_unprotected(head: Head, table: &mut [u32], held: &[u32], lease: Lease) -> Reply
+    requires { ⌜ 3 * lease .cell + 2 < length (now table) ⌝ }
+    ensures { λ r. ⌜ (r, now (table .exit))
+        ≡ dropUnprotectedOf head (now (table .entry)) (now (held .entry)) lease ⌝ }
+{
+    let hold = Hold {
+        cell: lease.cell,
+        serial: lease.serial,
+    };
+    if is_in(held, hold) {
+        return arena::refuse(head, Refusal::Protected);
+    }
+    arena::release(table, hold.cell);
+    arena::reply(head, 0, Answer::Done)
 }

@@ -238,12 +238,12 @@ inside-push a p c s cells l h b i k = go (ℕ-discrete i p)
     go (yes e) = rw (e, getD-set-same a p (c ∷ s ∷ []) [] l) h
     go (no e) = rw (getD-set-other a p i (c ∷ s ∷ []) [] e) (b i (omega arith))
 
--- where multi-lock stands, before the key at position p
-pub record Keying (e : Setting) (steps cells n buckets boot : ℕ) (registry keys : List ℕ) (grants : List ℕ) (r₀ : Run) (t₀ g₀ : List ℕ) (p : ℕ) (a : List (List ℕ)) (r : Run) (t g : List ℕ) : Type 0 where
+-- where multi-lock stands, before the key at position p, seen from position p₀, with these leases taken before it
+pub record Keying (e : Setting) (steps cells n buckets boot : ℕ) (registry keys : List ℕ) (grants : List ℕ) (p₀ : ℕ) (ls₀ : List Hold) (r₀ : Run) (t₀ g₀ : List ℕ) (p : ℕ) (a : List (List ℕ)) (r : Run) (t g : List ℕ) : Type 0 where
   pub run-bound : RunBound steps (keyMost * p) r
   pub few : p ≤ n
   pub words : length t ≡ length t₀
   pub bytes : length g ≡ length g₀
   pub size : length a ≡ 64
   pub inside : (i : ℕ) → i < p → getD (getD a i []) 0 0 < cells
-  pub rest : locksOf (n - p) p e buckets boot registry keys (pairsOf p 0 a) r t g grants .seen ≡ locksOf n 0 e buckets boot registry keys [] r₀ t₀ g₀ grants .seen
+  pub rest : locksOf (n - p) p e buckets boot registry keys (pairsOf p 0 a) r t g grants .seen ≡ locksOf (n - p₀) p₀ e buckets boot registry keys ls₀ r₀ t₀ g₀ grants .seen

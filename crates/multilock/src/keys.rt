@@ -1,6 +1,8 @@
 // The keys in the order given, and the grant buffer.
 // Functions with a `requires` are parts: calls have tested the shape, and a part tests nothing twice.
 // Crate `sorted` calls `lock_keys` too.
+use crate::free::free_first;
+use crate::free::freed;
 use crate::rollback::roll_back;
 use foreign::Scope;
 use types::Answer;
@@ -73,7 +75,7 @@ fn try_key(
     )
 }
 
-// The keys in the order given; all of them, or none.
+// The keys in the order given; all of them, or none. The first ones that are free at once need no retry.
 pub fn lock_keys(
     scope: Scope,
     start: Run,
@@ -95,8 +97,8 @@ pub fn lock_keys(
         start (now (table .entry)) (now (health .entry)) (now (grants .entry)) .seen ⌝ }
 {
     let mut taken = [[0; 2]; 64];
-    let mut run = start;
-    let mut p = 0;
+    let mut p = free_first(scope, start, table, health, registry, keys, n, &mut taken);
+    let mut run = freed(start, p);
     while p < n {
         let tried = try_key(
             scope,

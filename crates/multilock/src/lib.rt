@@ -5,6 +5,7 @@
 // Parts are no calls of document 01, public ones neither: only the layers here call them (tests/layers.sh), and each
 // caller proves their `requires`.
 pub mod checks;
+mod free;
 pub mod keys;
 mod rollback;
 

@@ -22,7 +22,7 @@ use Rattle.salvage.specs.declared.Ends.{Ends}
 use Rattle.laws.specs.Shape.{Shaped}
 use Rattle.laws.specs.Lists.{drop-one}
 use Rattle.laws.specs.Words.{bit-set-other, owner-set-other, bit-set-waiters, owner-set-waiters}
-use Rattle.laws.specs.Salvage.{changedOf, differing, changed-few, differing-few, entries-number, left-held-is, byte-kept}
+use Rattle.laws.specs.Salvage.{changedOf, differing, changed-few, differing-few, entries-number, left-held-is, byte-kept, length-mended, length-mended-health}
 
 -- ---- one cell
 
@@ -54,8 +54,9 @@ heldIn next t c = if isHeld next (bitAt t c) (ownerAt t c) then c ∷ [] else []
 abbrev tallied : ℕ → ℕ → Tally
 tallied n m = record { changes = n; left = m }
 
-unfoldable pub tallyIn : ℕ → List ℕ → ℕ → Tally
-tallyIn next t c = tallied (changedIn next t c) (length (heldIn next t c))
+-- of one cell more, on two counts
+unfoldable pub talliedIn : ℕ → List ℕ → ℕ → ℕ → ℕ → Tally
+talliedIn next t c n m = tallied (n + changedIn next t c) (m + length (heldIn next t c))
 
 unfoldable pub countCellsOf : ℕ → List ℕ → ℕ
 countCellsOf next t = differing t (mendedTable next t)
@@ -224,14 +225,29 @@ module _ (next : ℕ) (t : List ℕ) (c : ℕ) where
   unfolding heldIn
   held-none d = rw d
 
-  pub tally-held : (n w : ℕ) → heldHere ≡ true → w ≡ waitersAt t c → n ≡ changedOf w 0 → tallied n 1 ≡ tallyIn next t c
-  unfolding tallyIn
-  tally-held n w d e f = rw (changed-held d, held-one d, f, e)
+  -- what its words add: none of a cell that is all 0, of a held one the waiters, of any other all three
+  pub tally-none : (n m x y w : ℕ) → x + y + w ≡ 0 → x ≡ bitAt t c → y ≡ ownerAt t c → w ≡ waitersAt t c → tallied n m ≡ talliedIn next t c n m
+  unfolding talliedIn isHeld
+  tally-none n m x y w z e f g =
+      let bit : bitAt t c ≡ 0 = omega arith in
+      let owner : ownerAt t c ≡ 0 = omega arith in
+      let waiters : waitersAt t c ≡ 0 = omega arith in
+      let d : heldHere ≡ false = rw bit in
+      let k : n + (changedOf 0 0 + changedOf 0 0 + changedOf 0 0) ≡ n = omega (arith, changed-self 0) in
+      let l : m + 0 ≡ m = omega arith in
+      rw (changed-other d, held-none d, bit, owner, waiters, k, l)
 
-  pub tally-other : (a b n x y w : ℕ) → heldHere ≡ false → x ≡ bitAt t c → y ≡ ownerAt t c → w ≡ waitersAt t c
-      → a ≡ changedOf x 0 → b ≡ changedOf y 0 → n ≡ changedOf w 0 → tallied (a + b + n) 0 ≡ tallyIn next t c
-  unfolding tallyIn
-  tally-other a b n x y w d e f g p q r = rw (changed-other d, held-none d, p, q, r, e, f, g)
+  pub tally-held : (n m k w : ℕ) → heldHere ≡ true → w ≡ waitersAt t c → k ≡ changedOf w 0 → tallied (n + k) (m + 1) ≡ talliedIn next t c n m
+  unfolding talliedIn
+  tally-held n m k w d e f = rw (changed-held d, held-one d, f, e)
+
+  pub tally-other : (n m i j k x y w : ℕ) → heldHere ≡ false → x ≡ bitAt t c → y ≡ ownerAt t c → w ≡ waitersAt t c
+      → i ≡ changedOf x 0 → j ≡ changedOf y 0 → k ≡ changedOf w 0 → tallied (n + i + j + k) m ≡ talliedIn next t c n m
+  unfolding talliedIn
+  tally-other n m i j k x y w d e f g o p q =
+      let r : n + i + j + k ≡ n + (changedOf (bitAt t c) 0 + changedOf (ownerAt t c) 0 + changedOf (waitersAt t c) 0) = rw (o, p, q, e, f, g) (omega arith) in
+      let s : m + 0 ≡ m = omega arith in
+      rw (changed-other d, held-none d, r, s)
 
 mended-first : (next b o w : ℕ) (t : List ℕ) → mendedTable next (b ∷ o ∷ w ∷ t) ≡ mendedCell next b o w ++ mendedTable next t
 unfolding mendedTable
@@ -606,13 +622,13 @@ pub held-count-end : (next : ℕ) (t : List ℕ) (cells c : ℕ) → cells ≤ c
 held-count-end next t cells c h = rw (held-end next t cells c h)
 
 -- what a cell adds
-pub tally-parts : (next : ℕ) (t : List ℕ) (c : ℕ) (n : Tally) → n ≡ tallyIn next t c
-    → (n .changes ≡ changedIn next t c) × (n .left ≡ length (heldIn next t c)) × (n .changes ≤ 3) × (n .left ≤ 1)
-unfolding tallyIn
-tally-parts next t c n e =
-    let p : n .changes ≡ changedIn next t c = ap (λ (o : Tally). o .changes) e in
-    let q : n .left ≡ length (heldIn next t c) = ap (λ (o : Tally). o .left) e in
-    (p, q, changed-in-small (n .changes) next t c p, held-in-small (n .left) next t c q)
+pub tally-parts : (next : ℕ) (t : List ℕ) (c n m : ℕ) (o : Tally) → o ≡ talliedIn next t c n m
+    → (o .changes ≡ n + changedIn next t c) × (o .left ≡ m + length (heldIn next t c)) × (o .changes ≤ n + 3) × (o .left ≤ m + 1)
+unfolding talliedIn
+tally-parts next t c n m o e =
+    let p : o .changes ≡ n + changedIn next t c = ap (λ (q : Tally). q .changes) e in
+    let q : o .left ≡ m + length (heldIn next t c) = ap (λ (q : Tally). q .left) e in
+    (p, q, omega (arith, changed-in-small _ next t c refl), omega (arith, held-in-small _ next t c refl))
 
 pub tally-cells : (next cells : ℕ) (t : List ℕ) (n m : ℕ) → n ≡ countCellsOf next t → m ≡ countHeldOf next cells t → tallied n m ≡ tallyCells next cells t
 unfolding tallyCells
@@ -767,3 +783,132 @@ mend-whole h t g report list o q s k l e f =
     let y = byteEntries (3 * cellsOf h) g in
     let held = left-held-is (h .next) (cellsOf h) t (omega (arith, s .words-are)) in
     rw (f, e, laid-twice report x y 0, ← changes-parts h t g, over report (changesOf h t g) k, ← held, over list (leftHeld (h .next) (cellsOf h) t) l)
+
+-- ---- a table and health with nothing to mend: they stay, and a cell is held exactly if its bit is not 0
+
+-- the cell's number, if its bit is not 0
+unfoldable pub usedIn : List ℕ → ℕ → List ℕ
+usedIn t c = if eqb (bitAt t c) 0 then [] else c ∷ []
+
+-- the cells whose bit is not 0, `left` of them from cell c on
+unfoldable pub usedFrom : ℕ → ℕ → List ℕ → List ℕ
+usedFrom zero c t = []
+usedFrom (suc left) c t = usedIn t c ++ usedFrom left (c + 1) t
+
+abbrev pub usedLeft : List ℕ → ℕ → ℕ → List ℕ
+usedLeft t cells c = usedFrom (cells - c) c t
+
+pub used-none : (t list : List ℕ) (c left : ℕ) → bitAt t c ≡ 0 → (left, list) ≡ laidOf list left (usedIn t c)
+unfolding usedIn
+used-none t list c left e = rw e (laid-none list left)
+
+pub used-one : (t : List ℕ) (c : ℕ) → bitAt t c ≢ 0 → usedIn t c ≡ c ∷ []
+unfolding usedIn
+used-one t c e = rw (ne-eqb (bitAt t c) 0 e)
+
+pub used-laid : (t list : List ℕ) (c left : ℕ) → bitAt t c ≢ 0 → (left + 1, set list left c) ≡ laidOf list left (usedIn t c)
+unfolding laidOf
+used-laid t list c left e = rw (used-one t c e)
+
+used-turn : (t : List ℕ) (cells c : ℕ) → c < cells → usedLeft t cells c ≡ usedIn t c ++ usedLeft t cells (c + 1)
+unfolding usedFrom
+used-turn t cells c h = let e : cells - c ≡ suc (cells - (c + 1)) = omega arith in rw e
+
+-- one cell more is listed
+pub used-go : (t : List ℕ) (cells c : ℕ) → c < cells → (list : List ℕ) (left : ℕ) (o : ℕ × List ℕ) → o ≡ laidOf list left (usedIn t c)
+    → (o .0 + length (usedLeft t cells (c + 1)) ≡ left + length (usedLeft t cells c))
+    × (sets (o .1) (o .0) (usedLeft t cells (c + 1)) ≡ sets list left (usedLeft t cells c))
+unfolding laidOf
+used-go t cells c h list left o e =
+    let x = usedIn t c in
+    let y = usedLeft t cells (c + 1) in
+    let turn = used-turn t cells c h in
+    let p : o .0 ≡ left + length x = ap (λ (q : ℕ × List ℕ). q .0) e in
+    (rw turn (omega (arith, p, length-append x y)), rw (e, turn) (laid-twice list x y left))
+
+pub used-start : (t : List ℕ) (cells : ℕ) → usedLeft t cells 0 ≡ usedFrom cells 0 t
+used-start t cells = let e : cells - 0 ≡ cells = omega arith in rw e
+
+pub used-end : (t : List ℕ) (cells c : ℕ) → cells ≤ c → usedLeft t cells c ≡ []
+unfolding usedFrom
+used-end t cells c h = let e : cells - c ≡ 0 = omega arith in rw e
+
+-- there is room for the number of the next cell
+pub used-fits : (t : List ℕ) (cells c left n : ℕ) → c < cells → left + length (usedLeft t cells c) ≤ n → left + length (usedIn t c) ≤ n
+used-fits t cells c left n h k =
+    let e : length (usedLeft t cells c) ≡ length (usedIn t c ++ usedLeft t cells (c + 1)) = ap (λ (l : List ℕ). length l) (used-turn t cells c h) in
+    omega (arith, length-append (usedIn t c) (usedLeft t cells (c + 1)))
+
+changed-none : (a b : ℕ) → changedOf a b ≡ 0 → a ≡ b
+unfolding changedOf
+changed-none a b e = go (eqb a b) refl e
+  where
+    go : (x : Bool) → eqb a b ≡ x → _≡_ {A = ℕ} (if x then 0 else 1) 0 → a ≡ b
+    go true p q = eqb-true a b p
+    go false p q = omega arith
+
+differing-none : (old new : List ℕ) → length old ≡ length new → differing old new ≡ 0 → old ≡ new
+unfolding differing
+differing-none [] [] l e = refl
+differing-none [] (b ∷ new) l e = absurd (omega arith)
+differing-none (a ∷ old) [] l e = absurd (omega arith)
+differing-none (a ∷ old) (b ∷ new) l e = rw (changed-none a b (omega arith), differing-none old new (omega arith) (omega arith))
+
+changes-none : (place : ℕ) (t : List ℕ) → changesFrom place t t ≡ []
+unfolding changesFrom
+changes-none place [] = refl
+changes-none place (a ∷ t) = rw (change-self place a, changes-none (place + 1) t)
+
+held-bit : (next b o : ℕ) → isHeld next b o ≡ true → b ≢ 0
+unfolding isHeld
+held-bit next b o e z = let w : false ≡ true = (rw z at e) in let q : _≡_ {A = ℕ} 1 0 = ap (λ (x : Bool). if x then 0 else 1) w in omega arith
+
+usedless : (t : List ℕ) (c : ℕ) → bitAt t c ≡ 0 → usedIn t c ≡ []
+unfolding usedIn
+usedless t c z = rw z
+
+used-held-in : (next : ℕ) (t : List ℕ) (c : ℕ) → changedIn next t c ≡ 0 → usedIn t c ≡ heldIn next t c
+used-held-in next t c e = go (heldHere next t c) refl
+  where
+    go : (x : Bool) → heldHere next t c ≡ x → usedIn t c ≡ heldIn next t c
+    go true d = used-one t c (held-bit next (bitAt t c) (ownerAt t c) d) ∙ sym (held-one next t c d)
+    go false d = usedless t c (changed-none (bitAt t c) 0 (omega (arith, changed-other next t c d))) ∙ sym (held-none next t c d)
+
+used-held : (next : ℕ) (t : List ℕ) (n c : ℕ) → length t ≡ 3 * (c + n) → changesLeft next t c ≡ 0 → usedFrom n c t ≡ heldLeft next t (c + n) c
+unfolding usedFrom
+used-held next t zero c l e = sym (held-end next t (c + 0) c (omega arith))
+used-held next t (suc n) c l e =
+    let k = count-turn next t c (omega arith) in
+    let m : c + 1 + n ≡ c + suc n = omega arith in
+    let rest : usedFrom n (c + 1) t ≡ heldLeft next t (c + suc n) (c + 1) = used-held next t n (c + 1) (omega arith) (omega (arith, k)) ∙ ap (λ (i : ℕ). heldLeft next t i (c + 1)) m in
+    rw (used-held-in next t c (omega (arith, k)), rest) (sym (held-turn next t (c + suc n) c (omega arith)))
+
+module _ (h : Head) (t g : List ℕ) (s : Shaped h (length t)) (none : entriesOf h t g ≡ 0) where
+  table-stays : mendedTable (h .next) t ≡ t
+  table-stays = sym (differing-none t (mendedTable (h .next) t) (sym (length-mended (h .next) t)) (omega (arith, entries-number h t g, none)))
+
+  health-stays : mendedHealth g ≡ g
+  health-stays = sym (differing-none g (mendedHealth g) (sym (length-mended-health g)) (omega (arith, entries-number h t g, none)))
+
+  nothing-changes : changesOf h t g ≡ []
+  unfolding changesOf
+  nothing-changes = rw (table-stays, health-stays, changes-none 0 t, changes-none (3 * cellsOf h) g)
+
+  pub used-is-held : usedFrom (cellsOf h) 0 t ≡ leftHeld (h .next) (cellsOf h) t
+  used-is-held =
+      let z : 0 + cellsOf h ≡ cellsOf h = omega arith in
+      used-held (h .next) t (cellsOf h) 0 (omega (arith, s .words-are)) (omega (arith, entries-number h t g, none))
+      ∙ ap (λ (n : ℕ). heldLeft (h .next) t n 0) z ∙ held-start (h .next) (cellsOf h) t ∙ sym (left-held-is (h .next) (cellsOf h) t (omega (arith, s .words-are)))
+
+  -- the cells left held are listed, and nothing else is written; where none is, nothing is
+  pub mend-listed : (report list : List ℕ) → length (leftHeld (h .next) (cellsOf h) t) ≤ length list
+      → (t, (g, (report, sets list 0 (usedFrom (cellsOf h) 0 t)))) ≡ mendOf h t g report list
+  unfolding mendOf overOf
+  mend-listed report list k = rw (table-stays, health-stays, nothing-changes, used-is-held, over list (leftHeld (h .next) (cellsOf h) t) k)
+
+  pub mend-idle : (report list : List ℕ) → length (leftHeld (h .next) (cellsOf h) t) ≡ 0 → (t, (g, (report, list))) ≡ mendOf h t g report list
+  mend-idle report list k = ap (λ (l : List ℕ). (t, (g, (report, l)))) (sym (rw (used-is-held, empty (leftHeld (h .next) (cellsOf h) t) k))) ∙ mend-listed report list (omega arith)
+    where
+      empty : (l : List ℕ) → length l ≡ 0 → l ≡ []
+      empty [] e = refl
+      empty (x ∷ l) e = absurd (omega arith)

@@ -1,6 +1,6 @@
 // Salvage after a warm restart (document 02, L6). Each function but `salvage` is a part: it may have a `requires`,
 // which its callers prove. A first pass counts what would be written, so that ReportFull is known before the first
-// change; a second reads each cell once, lists it and mends it.
+// change; a second reads each cell once, lists it and mends it, and only lists it where there is nothing to mend.
 use types::Check;
 use types::Head;
 use types::SalvageAnswer;
@@ -8,14 +8,16 @@ use types::SalvageReply;
 ghost use mathlib.Core.Path.{_≡_};
 ghost use Prim.Native.Nat.{_+_, _*_, _<_, _≤_};
 ghost use lib.ListN.{length, getD};
+ghost use lib.Seq.{sets};
 ghost use Rattle.model.specs.Arena.{isHeld, cellsOf};
 ghost use Rattle.model.specs.Salvage.{mendedByte, changeOf, heldFrom};
-ghost use Rattle.model.specs.Salvage.{changesOf, leftHeld, concluded, mendOf, goOverOf, salvageOf};
+ghost use Rattle.model.specs.Salvage.{changesOf, entriesOf, leftHeld, concluded, mendOf, goOverOf, salvageOf};
 ghost use Rattle.laws.specs.Shape.{Shaped};
 ghost use Rattle.laws.specs.Salvage.{changedOf};
-ghost use Rattle.salvage.specs.Laws.{tallyIn, tallyCells, countBytesOf, tallyOf};
+ghost use Rattle.salvage.specs.Laws.{talliedIn, tallyCells, countBytesOf, tallyOf};
 ghost use Rattle.salvage.specs.Laws.{changesIn, heldIn, clearedOf, mendedIn, cellEntries, mendedCells};
 ghost use Rattle.salvage.specs.Laws.{mendedAt, byteEntries, mendedBytes};
+ghost use Rattle.salvage.specs.Laws.{laidOf, usedIn, usedFrom};
 
 // How many words or bytes change, and how many cells are held.
 struct Tally {
@@ -63,40 +65,46 @@ fn is_held(next: u32, bit: u32, owner: u32) -> bool
     false
 }
 
-// One cell: a held one keeps bit and owner, of any other all three words become 0.
-fn tally_in(next: u32, table: &[u32], cell: u32) -> Tally
-    requires { ⌜ 3 * cell + 2 < length (now table) ⌝ }
-    ensures { λ r. ⌜ r ≡ tallyIn next (now (table .entry)) cell ⌝ }
+// Both counts with one cell more: a held one keeps bit and owner, of any other all three words become 0. Most are all
+// 0, and one test passes over them; the counts go through it, so that such a cell costs no sum.
+fn tally_in(next: u32, table: &[u32], cell: u32, changes: usize, left: usize) -> Tally
+    requires { ⌜ (3 * cell + 2 < length (now table)) × (changes ≤ 20000) × (left ≤ 20000) ⌝ }
+    ensures { λ r. ⌜ r ≡ talliedIn next (now (table .entry)) cell changes left ⌝ }
 {
     let bit = arena::bit_at(table, cell);
     let owner = arena::owner_at(table, cell);
-    let c = changed(arena::waiters_at(table, cell));
+    let waiters = arena::waiters_at(table, cell);
+    if (bit as u64) + (owner as u64) + (waiters as u64) == 0 {
+        return Tally { changes, left };
+    }
     if is_held(next, bit, owner) {
+        let c = changed(waiters);
         return Tally {
-            changes: c,
-            left: 1,
+            changes: changes + c,
+            left: left + 1,
         };
     }
     let a = changed(bit);
     let b = changed(owner);
+    let c = changed(waiters);
     Tally {
-        changes: a + b + c,
-        left: 0,
+        changes: changes + a + b + c,
+        left,
     }
 }
 
 // All cells.
 fn count_cells(next: u32, table: &[u32], cells: u32) -> Tally
-    requires { ⌜ length (now table) ≡ 3 * cells ⌝ }
+    requires { ⌜ (length (now table) ≡ 3 * cells) × (cells ≤ 4096) ⌝ }
     ensures { λ r. ⌜ r ≡ tallyCells next cells (now (table .entry)) ⌝ }
 {
     let mut changes = 0;
     let mut left = 0;
     let mut cell = 0;
     while cell < cells {
-        let one = tally_in(next, table, cell);
-        changes += one.changes;
-        left += one.left;
+        let sums = tally_in(next, table, cell, changes, left);
+        changes = sums.changes;
+        left = sums.left;
         cell += 1;
     }
     Tally { changes, left }
@@ -249,8 +257,33 @@ fn mend_bytes(health: &mut [u8], place: u32, report: &mut [u32], at: usize) -> u
 
 // ---- the call
 
+// A cell of a table with nothing to mend: its number to the list unless its bit is 0, since it is held then.
+fn list_cell(table: &[u32], cell: u32, list: &mut [u32], left: usize) -> usize
+    requires { ⌜ (3 * cell + 2 < length (now table)) × (left + length (usedIn (now table) cell) ≤ length (now list)) ⌝ }
+    ensures { λ r. ⌜ (r, now (list .exit)) ≡ laidOf (now (list .entry)) left (usedIn (now (table .entry)) cell) ⌝ }
+{
+    if arena::bit_at(table, cell) == 0 {
+        return left;
+    }
+    list[left] = cell;
+    left + 1
+}
+
+// All cells of such a table, from the front of the list on.
+fn list_cells(table: &[u32], cells: u32, list: &mut [u32])
+    requires { ⌜ (length (now table) ≡ 3 * cells) × (length (usedFrom cells 0 (now table)) ≤ length (now list)) ⌝ }
+    ensures { λ _. ⌜ now (list .exit) ≡ sets (now (list .entry)) 0 (usedFrom cells 0 (now (table .entry))) ⌝ }
+{
+    let mut left = 0;
+    let mut cell = 0;
+    while cell < cells {
+        left = list_cell(table, cell, list, left);
+        cell += 1;
+    }
+}
+
 // All is listed and mended: the table, then the health bytes.
-fn mend(
+fn mend_all(
     head: Head,
     table: &mut [u32],
     health: &mut [u8],
@@ -266,6 +299,33 @@ fn mend(
     let cells = head.headers * head.buckets;
     let ends = mend_cells(head.next, table, cells, report, unconfirmed);
     mend_bytes(health, 3 * cells, report, ends.at);
+}
+
+// The same, given both counts: where nothing changes, only the cells left held are listed, if there are any.
+fn mend(
+    head: Head,
+    changes: usize,
+    left: usize,
+    table: &mut [u32],
+    health: &mut [u8],
+    report: &mut [u32],
+    unconfirmed: &mut [u32],
+)
+    requires { ⌜ Shaped head (length (now table)) × (length (now health) ≡ head .headers) ×
+        (length (changesOf head (now table) (now health)) ≤ length (now report)) ×
+        (length (leftHeld (head .next) (cellsOf head) (now table)) ≤ length (now unconfirmed)) ×
+        (changes ≡ entriesOf head (now table) (now health)) ×
+        (left ≡ length (leftHeld (head .next) (cellsOf head) (now table))) ⌝ }
+    ensures { λ _. ⌜ (now (table .exit), (now (health .exit), (now (report .exit), now (unconfirmed .exit))))
+        ≡ mendOf head (now (table .entry)) (now (health .entry)) (now (report .entry)) (now (unconfirmed .entry)) ⌝ }
+{
+    if 0 < changes {
+        mend_all(head, table, health, report, unconfirmed);
+        return;
+    }
+    if 0 < left {
+        list_cells(table, head.headers * head.buckets, unconfirmed);
+    }
 }
 
 // An arena whose shape is good: ReportFull is known before the first change.
@@ -289,7 +349,7 @@ fn go_over(
     if unconfirmed.len() < left {
         return conclude(head, SalvageAnswer::ReportFull);
     }
-    mend(head, table, health, report, unconfirmed);
+    mend(head, changes, left, table, health, report, unconfirmed);
     conclude(head, SalvageAnswer::Done(changes, left))
 }
 

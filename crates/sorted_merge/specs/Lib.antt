@@ -1,3 +1,4 @@
 pub mod Merging
 pub mod Halves
 pub mod Few
+pub mod Runs

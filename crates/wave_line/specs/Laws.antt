@@ -1,12 +1,11 @@
 -- Laws for the steps: lines compared, and what a stage changes.
-use Prim.Native.Nat.{ℕ, suc, _+_, _*_, _-_, _^_, _≤_, _<_}
+use Prim.Native.Nat.{ℕ, suc, _+_, _-_, _≤_, _<_}
 use mathlib.Core.Path.{_≡_, refl, sym, ap, _∙_}
 use mathlib.Core.Logic.{_≢_}
 use mathlib.Core.List.{List, [], _∷_, _++_, append-assoc, append-nil}
 use mathlib.Core.Bool.{Bool, true, false, _&&_}
 use native.Mathlib.Omega.{arith}
 use native.Mathlib.Numerals.{add-one}
-use native.Mathlib.Nat.{pow-le-pow-right}
 use lib.Dec.{eqb, ltb, leb}
 use lib.ListN.{length, getD, drop, take, length-append, drop-of-length-le}
 use lib.Seq.{sets, sets-eq, take-at, drop-cons}
@@ -14,17 +13,17 @@ use borrow.Author.Tests.{ltb-true, ltb-false, lt-ltb, le-ltb, le-leb, eq-eqb, ne
 use Rattle.choice.specs.Choice.{if_then_else_}
 use Rattle.text.specs.declared.Number.{Number}
 use Rattle.text.specs.Text.{isDigit, digitsIn, valueFrom, noNumber, endedNumberOf, readNumberOf}
-use Rattle.text.specs.Laws.{digit-is, digits-at, digits-end, value-at, value-end}
 use Rattle.text.specs.Decimal.{decimalOf, digitCount, length-decimal, digit-count-most, digit-count-few}
 use Rattle.text.specs.Back.{wholeNumber, number-back, number-whole}
 use Rattle.wave_rules.specs.Lines.{joined, same}
 use Rattle.wave_rules.specs.Dump.{turned}
 use Rattle.wave_rules.specs.declared.Stage.{Stage}
 use Rattle.wave_rules.specs.declared.Stage.the-variants.{Opening, Scope, Variables, Ending, Start, Values, Waiting, Changing, Lost}
-use Rattle.wave_rules.specs.Dump.{flipOf, timescale, scopeLine, varLine, upscope, endLine, timeLine, bitLine}
-use Rattle.wave_rules.specs.Reader.{timeIn, cellIn, afterVariable, afterValue, isTime, isChange, nextOf, bitsOf}
-use Rattle.wave_rules.specs.Stages.{false-not, nested, same-refl as same-self, same-true, time-later, Reach}
-use Rattle.wave_line.specs.Stages.{isLost, isChanging, sumOf, stampOf, afterTime, onwardOf}
+use Rattle.wave_rules.specs.declared.Verdict.the-variants.{Bad}
+use Rattle.wave_rules.specs.Dump.{timescale, scopeLine, varLine, upscope, endLine, timeLine, bitLine}
+use Rattle.wave_rules.specs.Reader.{timeIn, cellIn, afterVariable, afterValue, isTime, isChange, nextOf, bitsOf, atEnd, scriptWordsAt}
+use Rattle.wave_rules.specs.Stages.{false-not, nested, same-refl as same-self, same-true, time-later, Reach, reach-next}
+use Rattle.wave_line.specs.Stages.{isLost, Early, waitsOf, sumOf, stampOf, afterTime}
 use Rattle.print.specs.Print.{putOf}
 use Rattle.wave_write.specs.Laws.{length-time, length-bit, length-var, five-digits}
 
@@ -113,18 +112,6 @@ read-made : (y : List ℕ) → valueFrom 0 y ≤ 4294967295 → 0 < digitsIn y �
 unfolding readNumberOf endedNumberOf
 read-made y h k z = let some : digitsIn y ≢ 0 = omega arith in rw (le-ltb 4294967295 (valueFrom 0 y) h, ne-eqb (digitsIn y) 0 some, ne-eqb (getD y 0 0) 48 z)
 
--- the digits up to i come to t
-abbrev pub Summed : List ℕ → ℕ → ℕ → Type 0
-Summed x t i = (1 ≤ i) × (i ≤ length x) × (t < 10 ^ (i - 1)) × (valueFrom t (drop i x) ≡ valueFrom 0 (drop 1 x)) × (digitsIn (drop i x) + (i - 1) ≡ digitsIn (drop 1 x))
-
-pub sum-start : (x : List ℕ) → 1 ≤ length x → Summed x 0 1
-sum-start x h = (omega arith, h, omega arith, refl, omega arith)
-
-pub sum-small : (x : List ℕ) (t i : ℕ) → Summed x t i → i ≤ 6 → t < 100000
-sum-small x t i s h =
-    let q : 10 ^ (i - 1) ≤ 10 ^ 5 = pow-le-pow-right {n = 10} (omega arith) {i = i - 1} {j = 5} (omega arith) in
-    omega (arith, s .2)
-
 pub low-byte : (b : ℕ) → b < 48 → isDigit b ≡ false
 unfolding isDigit
 low-byte b h = rw (lt-ltb b 48 h)
@@ -136,30 +123,6 @@ high-byte b h = let p : 48 ≤ b = omega arith in let q : 58 ≤ b = omega arith
 pub digit-byte : (b : ℕ) → 48 ≤ b → b ≤ 57 → isDigit b ≡ true
 unfolding isDigit
 digit-byte b h k = let q : b < 58 = omega arith in rw (le-ltb b 48 h, lt-ltb b 58 q)
-
-pub sum-stop : (x : List ℕ) (t i : ℕ) → Summed x t i → i < length x → isDigit (getD x i 0) ≡ false → 0 ≡ sumOf x
-unfolding sumOf
-sum-stop x t i s h e =
-    let d : digitsIn (drop i x) ≡ 0 = rw e at (digits-at x i h) in
-    let q : digitsIn (drop 1 x) ≢ length x - 1 = (λ w. omega (arith, s .0, s .4)) in
-    rw (ne-eqb _ _ q)
-
-pub sum-turn : (x : List ℕ) (t i : ℕ) → Summed x t i → i < length x → isDigit (getD x i 0) ≡ true
-    → Summed x (10 * t + (getD x i 0 - 48)) (i + 1)
-sum-turn x t i s h e =
-    let b = digit-is (getD x i 0) e in
-    let d = rw e at (digits-at x i h) in
-    let v = rw e at (value-at t x i h) in
-    let k : i + 1 - 1 ≡ suc (i - 1) = omega (arith, s .0) in
-    let p : 10 ^ suc (i - 1) ≡ 10 * 10 ^ (i - 1) = omega arith in
-    (omega arith, omega arith, rw (k, p) (omega (arith, s .2, b)), sym v ∙ s .3, omega (arith, d, s .4, s .0))
-
-pub sum-end : (x : List ℕ) (t i : ℕ) → Summed x t i → length x ≤ i → t ≡ sumOf x
-unfolding sumOf
-sum-end x t i s h =
-    let d = digits-end x i h in
-    let q : digitsIn (drop 1 x) ≡ length x - 1 = omega (arith, s .1, s .4) in
-    rw (eq-eqb _ _ q) (sym (value-end t x i h) ∙ s .3)
 
 -- a number that is not 0 does not begin with 0
 first-some : (y : List ℕ) → digitsIn y ≡ length y → 0 < valueFrom 0 y → (eqb (getD y 0 0) 48 && ltb 1 (digitsIn y)) ≡ false → getD y 0 0 ≢ 48
@@ -189,23 +152,23 @@ stamp-is last (a ∷ y) e =
     rw (le-ltb (suc (length y)) 2 c, le-ltb 6 (suc (length y)) f, r .0, ne-eqb (getD y 0 0) 48 z, eq-eqb (digitsIn y) (suc (length y) - 1) g) (sym (w .1))
 
 -- and a line with one is the time line of it
-stamp-made : (a : ℕ) (y : List ℕ) → 0 < stampOf (a ∷ y)
-    → (a ≡ 35) × (getD y 0 0 ≢ 48) × (digitsIn y ≡ length y) × (stampOf (a ∷ y) ≡ valueFrom 0 y) × (1 ≤ length y)
+pub stamp-made : (a : ℕ) (y : List ℕ) → 0 < stampOf (a ∷ y)
+    → (a ≡ 35) × (getD y 0 0 ≢ 48) × (digitsIn y ≡ length y) × (stampOf (a ∷ y) ≡ valueFrom 0 y) × (1 ≤ length y) × (length y ≤ 5)
 unfolding stampOf sumOf
-stamp-made a y h = go (ltb (suc (length y)) 2) refl (ltb 6 (suc (length y))) (eqb a 35) refl (eqb (getD y 0 0) 48) refl (eqb (digitsIn y) (suc (length y) - 1)) refl h
+stamp-made a y h = go (ltb (suc (length y)) 2) refl (ltb 6 (suc (length y))) refl (eqb a 35) refl (eqb (getD y 0 0) 48) refl (eqb (digitsIn y) (suc (length y) - 1)) refl h
   where
     made : Bool → Bool → Bool → Bool → Bool → ℕ
     made p q r s t = if p then 0 else if q then 0 else if r then (if s then 0 else if t then valueFrom 0 y else 0) else 0
 
-    go : (p : Bool) → ltb (suc (length y)) 2 ≡ p → (q r : Bool) → eqb a 35 ≡ r → (s : Bool) → eqb (getD y 0 0) 48 ≡ s → (t : Bool)
+    go : (p : Bool) → ltb (suc (length y)) 2 ≡ p → (q : Bool) → ltb 6 (suc (length y)) ≡ q → (r : Bool) → eqb a 35 ≡ r → (s : Bool) → eqb (getD y 0 0) 48 ≡ s → (t : Bool)
         → eqb (digitsIn y) (suc (length y) - 1) ≡ t → 0 < made p q r s t
-        → (a ≡ 35) × (getD y 0 0 ≢ 48) × (digitsIn y ≡ length y) × (made p q r s t ≡ valueFrom 0 y) × (1 ≤ length y)
-    go true e q r f s g t w k = absurd (omega arith)
-    go false e true r f s g t w k = absurd (omega arith)
-    go false e false false f s g t w k = absurd (omega arith)
-    go false e false true f true g t w k = absurd (omega arith)
-    go false e false true f false g false w k = absurd (omega arith)
-    go false e false true f false g true w k = (eqb-true a 35 f, eqb-false (getD y 0 0) 48 g, omega (arith, eqb-true (digitsIn y) (suc (length y) - 1) w), refl, omega (arith, ltb-false (suc (length y)) 2 e))
+        → (a ≡ 35) × (getD y 0 0 ≢ 48) × (digitsIn y ≡ length y) × (made p q r s t ≡ valueFrom 0 y) × (1 ≤ length y) × (length y ≤ 5)
+    go true e q u r f s g t w k = absurd (omega arith)
+    go false e true u r f s g t w k = absurd (omega arith)
+    go false e false u false f s g t w k = absurd (omega arith)
+    go false e false u true f true g t w k = absurd (omega arith)
+    go false e false u true f false g false w k = absurd (omega arith)
+    go false e false u true f false g true w k = (eqb-true a 35 f, eqb-false (getD y 0 0) 48 g, omega (arith, eqb-true (digitsIn y) (suc (length y) - 1) w), refl, omega (arith, ltb-false (suc (length y)) 2 e), omega (arith, ltb-false 6 (suc (length y)) u))
 
 stamp-none : 0 < stampOf [] → ⊥
 unfolding stampOf
@@ -267,67 +230,107 @@ turned-few bit = go (eqb bit 0)
 
 -- ---- stages
 
-pub still-bits : (s : Stage) (bits x : List ℕ) → isChanging s ≡ false → bitsOf s bits x ≡ bits
-still-bits Opening bits x e = refl
-still-bits Scope bits x e = refl
-still-bits (Variables n) bits x e = refl
-still-bits (Ending n) bits x e = refl
-still-bits (Start n) bits x e = refl
-still-bits (Values n c) bits x e = refl
-still-bits (Waiting n last) bits x e = refl
-still-bits (Changing n last t) bits x e = false-not (sym e)
-still-bits Lost bits x e = refl
+-- what a line before the changes leads to: such a stage, or the changes, from time 0 on
+abbrev Follows : Stage → Type 0
+Follows Opening = Unit {0}
+Follows Scope = Unit {0}
+Follows (Variables n) = Unit {0}
+Follows (Ending n) = Unit {0}
+Follows (Start n) = Unit {0}
+Follows (Values n c) = Unit {0}
+Follows (Waiting n last) = last ≡ 0
+Follows (Changing n last t) = ⊥
+Follows Lost = Unit {0}
 
-pub turned-bits : (s : Stage) (bits x : List ℕ) → isChanging s ≡ true → bitsOf s bits x ≡ flipOf bits (cellIn x)
-turned-bits Opening bits x e = false-not e
-turned-bits Scope bits x e = false-not e
-turned-bits (Variables n) bits x e = false-not e
-turned-bits (Ending n) bits x e = false-not e
-turned-bits (Start n) bits x e = false-not e
-turned-bits (Values n c) bits x e = false-not e
-turned-bits (Waiting n last) bits x e = false-not e
-turned-bits (Changing n last t) bits x e = refl
-turned-bits Lost bits x e = false-not e
+follows-if : (b : Bool) (s : Stage) → Follows s → Follows (if b then s else Lost)
+follows-if true s f = f
+follows-if false s f = tt
 
--- a change that was taken is of a cell that there is
-pub change-within : (s : Stage) (bits x : List ℕ) → Reach s → isChanging s ≡ true → isLost (nextOf s bits x) ≡ false
-    → cellIn x < 94
-unfolding isChange
-change-within Opening bits x h e f = false-not e
-change-within Scope bits x h e f = false-not e
-change-within (Variables n) bits x h e f = false-not e
-change-within (Ending n) bits x h e f = false-not e
-change-within (Start n) bits x h e f = false-not e
-change-within (Values n c) bits x h e f = false-not e
-change-within (Waiting n last) bits x h e f = false-not e
-change-within (Changing n last t) bits x h e f = go (ltb (cellIn x) n) refl f
+follows-next : (s : Stage) (bits x : List ℕ) → Early s → Follows (nextOf s bits x)
+unfolding afterVariable afterValue
+follows-next Opening bits x e = follows-if (same x timescale) Scope tt
+follows-next Scope bits x e = follows-if (same x scopeLine) (Variables 0) tt
+follows-next (Variables n) bits x e = go (if ltb n 94 then same x (varLine n) else false) (if ltb 0 n then same x upscope else false)
   where
-    go : (b : Bool) → ltb (cellIn x) n ≡ b
-        → isLost (if (if b then same x (bitLine (turned (getD bits (cellIn x) 0)) (cellIn x)) else false) then Waiting n t else Lost) ≡ false → cellIn x < 94
-    go true p q = omega (arith, h .1, ltb-true (cellIn x) n p)
-    go false p q = false-not (sym q)
-change-within Lost bits x h e f = false-not e
-
--- a line that is known to be right leads where its stage says
-onward-fixed : (b : Bool) (s : Stage) → isLost (if b then s else Lost) ≡ false → s ≡ (if b then s else Lost)
-onward-fixed true s h = refl
-onward-fixed false s h = false-not (sym h)
-
-pub onward-is : (s : Stage) (bits x : List ℕ) → isLost (nextOf s bits x) ≡ false → onwardOf s x ≡ nextOf s bits x
-unfolding afterValue
-onward-is Opening bits x h = onward-fixed (same x timescale) Scope h
-onward-is Scope bits x h = onward-fixed (same x scopeLine) (Variables 0) h
-onward-is (Variables n) bits x h = refl
-onward-is (Ending n) bits x h = onward-fixed (same x endLine) (Start n) h
-onward-is (Start n) bits x h = onward-fixed (same x (timeLine 0)) (Values n 0) h
-onward-is (Values n c) bits x h = onward-fixed (same x (bitLine 0 c)) (if ltb (c + 1) n then Values n (c + 1) else Waiting n 0) h
-onward-is (Waiting n last) bits x h = go (isTime last x) refl h
+    go : (a b : Bool) → Follows (if a then Variables (n + 1) else if b then Ending n else Lost)
+    go true b = tt
+    go false true = tt
+    go false false = tt
+follows-next (Ending n) bits x e = follows-if (same x endLine) (Start n) tt
+follows-next (Start n) bits x e = follows-if (same x (timeLine 0)) (Values n 0) tt
+follows-next (Values n c) bits x e = go (same x (bitLine 0 c)) (ltb (c + 1) n)
   where
-    go : (b : Bool) → isTime last x ≡ b → isLost (if b then Changing n last (timeIn x) else Lost) ≡ false → Changing n last (stampOf x) ≡ (if b then Changing n last (timeIn x) else Lost)
-    go true e k = rw (stamp-is last x e)
-    go false e k = false-not (sym k)
-onward-is (Changing n last t) bits x h = onward-fixed (isChange n bits x) (Waiting n t) h
-onward-is Lost bits x h = refl
+    go : (a b : Bool) → Follows (if a then (if b then Values n (c + 1) else Waiting n 0) else Lost)
+    go true true = tt
+    go true false = refl
+    go false b = tt
+follows-next (Waiting n last) bits x e = absurd e
+follows-next (Changing n last t) bits x e = absurd e
+follows-next Lost bits x e = absurd e
+
+early-of : (s : Stage) → Follows s → Reach s → isLost s ≡ false → waitsOf s ≤ 0 → Early s
+early-of Opening f r l w = tt
+early-of Scope f r l w = tt
+early-of (Variables n) f r l w = tt
+early-of (Ending n) f r l w = tt
+early-of (Start n) f r l w = tt
+early-of (Values n c) f r l w = tt
+early-of (Waiting n last) f r l w = absurd (omega (arith, r .0))
+early-of (Changing n last t) f r l w = f
+early-of Lost f r l w = false-not (sym l)
+
+waiting-of : (s : Stage) → Follows s → 0 < waitsOf s → s ≡ Waiting (waitsOf s) 0
+waiting-of Opening f w = absurd (omega arith)
+waiting-of Scope f w = absurd (omega arith)
+waiting-of (Variables n) f w = absurd (omega arith)
+waiting-of (Ending n) f w = absurd (omega arith)
+waiting-of (Start n) f w = absurd (omega arith)
+waiting-of (Values n c) f w = absurd (omega arith)
+waiting-of (Waiting n last) f w = rw f
+waiting-of (Changing n last t) f w = absurd f
+waiting-of Lost f w = absurd (omega arith)
+
+-- a line that was taken leads to another such stage, or to the changes
+module _ (s : Stage) (bits x : List ℕ) (e : Early s) (after : Stage) (a : after ≡ nextOf s bits x) where
+  pub next-early : Reach s → isLost after ≡ false → waitsOf after ≤ 0 → Early after
+  next-early r l w = early-of after (rw a (follows-next s bits x e)) (rw a (reach-next s bits x r)) l w
+
+  pub next-waiting : 0 < waitsOf after → after ≡ Waiting (waitsOf after) 0
+  next-waiting w = waiting-of after (rw a (follows-next s bits x e)) w
+
+-- such a line changes no bit and adds no word, and no text may end before the changes
+pub early-bits : (s : Stage) (bits x : List ℕ) → Early s → bitsOf s bits x ≡ bits
+early-bits Opening bits x e = refl
+early-bits Scope bits x e = refl
+early-bits (Variables n) bits x e = refl
+early-bits (Ending n) bits x e = refl
+early-bits (Start n) bits x e = refl
+early-bits (Values n c) bits x e = refl
+early-bits (Waiting n last) bits x e = absurd e
+early-bits (Changing n last t) bits x e = absurd e
+early-bits Lost bits x e = absurd e
+
+pub early-words : (s : Stage) (bits x w : List ℕ) → Early s → scriptWordsAt s bits x w ≡ w
+early-words Opening bits x w e = refl
+early-words Scope bits x w e = refl
+early-words (Variables n) bits x w e = refl
+early-words (Ending n) bits x w e = refl
+early-words (Start n) bits x w e = refl
+early-words (Values n c) bits x w e = refl
+early-words (Waiting n last) bits x w e = absurd e
+early-words (Changing n last t) bits x w e = absurd e
+early-words Lost bits x w e = absurd e
+
+pub early-end : (s : Stage) (k : ℕ) → Early s → Bad k ≡ atEnd s k
+early-end Opening k e = refl
+early-end Scope k e = refl
+early-end (Variables n) k e = refl
+early-end (Ending n) k e = refl
+early-end (Start n) k e = refl
+early-end (Values n c) k e = refl
+early-end (Waiting n last) k e = absurd e
+early-end (Changing n last t) k e = absurd e
+early-end Lost k e = absurd e
 
 -- ---- lines that are too long: no line of a dump has more than 22 bytes, which a variable from c10 on has
 

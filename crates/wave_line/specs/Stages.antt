@@ -1,12 +1,12 @@
 -- Questions about a stage and a line, which the reader's steps ask.
-use Prim.Native.Nat.{ℕ, _+_, _-_}
+use Prim.Native.Nat.{ℕ, _-_}
 use mathlib.Core.List.{List}
 use mathlib.Core.Bool.{Bool, true, false}
 use lib.Dec.{eqb, ltb}
 use lib.ListN.{length, getD, drop}
 use Rattle.choice.specs.Choice.{if_then_else_}
 use Rattle.text.specs.Text.{digitsIn, valueFrom}
-use Rattle.wave_rules.specs.Reader.{timeIn, afterVariable, isTime}
+use Rattle.wave_rules.specs.Reader.{timeIn, isTime}
 use Rattle.wave_rules.specs.declared.Stage.{Stage}
 use Rattle.wave_rules.specs.declared.Stage.the-variants.{Opening, Scope, Variables, Ending, Start, Values, Waiting, Changing, Lost}
 
@@ -22,29 +22,29 @@ isLost (Waiting n last) = false
 isLost (Changing n last t) = false
 isLost Lost = true
 
--- whether a change is waited for
-abbrev pub isChanging : Stage → Bool
-isChanging Opening = false
-isChanging Scope = false
-isChanging (Variables n) = false
-isChanging (Ending n) = false
-isChanging (Start n) = false
-isChanging (Values n c) = false
-isChanging (Waiting n last) = false
-isChanging (Changing n last t) = true
-isChanging Lost = false
+-- the stages before the changes
+abbrev pub Early : Stage → Type 0
+Early Opening = Unit {0}
+Early Scope = Unit {0}
+Early (Variables n) = Unit {0}
+Early (Ending n) = Unit {0}
+Early (Start n) = Unit {0}
+Early (Values n c) = Unit {0}
+Early (Waiting n last) = ⊥
+Early (Changing n last t) = ⊥
+Early Lost = ⊥
 
--- how many steps only count before a change
-abbrev pub gapOf : Stage → ℕ
-gapOf Opening = 0
-gapOf Scope = 0
-gapOf (Variables n) = 0
-gapOf (Ending n) = 0
-gapOf (Start n) = 0
-gapOf (Values n c) = 0
-gapOf (Waiting n last) = 0
-gapOf (Changing n last t) = t - (last + 1)
-gapOf Lost = 0
+-- how many cells there are, where a time is waited for
+abbrev pub waitsOf : Stage → ℕ
+waitsOf Opening = 0
+waitsOf Scope = 0
+waitsOf (Variables n) = 0
+waitsOf (Ending n) = 0
+waitsOf (Start n) = 0
+waitsOf (Values n c) = 0
+waitsOf (Waiting n last) = n
+waitsOf (Changing n last t) = 0
+waitsOf Lost = 0
 
 -- what the digits behind a line's first byte come to; 0 if they are not all of it
 unfoldable pub sumOf : List ℕ → ℕ
@@ -59,15 +59,3 @@ stampOf x =
 -- what a line leads to where a time is waited for
 abbrev pub afterTime : ℕ → ℕ → List ℕ → Stage
 afterTime n last x = if isTime last x then Changing n last (timeIn x) else Lost
-
--- what a line leads to that is known to be right (`onward-is`): only what it says is read
-abbrev pub onwardOf : Stage → List ℕ → Stage
-onwardOf Opening x = Scope
-onwardOf Scope x = Variables 0
-onwardOf (Variables n) x = afterVariable n x
-onwardOf (Ending n) x = Start n
-onwardOf (Start n) x = Values n 0
-onwardOf (Values n c) x = if ltb (c + 1) n then Values n (c + 1) else Waiting n 0
-onwardOf (Waiting n last) x = Changing n last (stampOf x)
-onwardOf (Changing n last t) x = Waiting n t
-onwardOf Lost x = Lost

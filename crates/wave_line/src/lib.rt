@@ -1,20 +1,20 @@
 // The stages of the waveform's reader (document 02, L11): what one line leads to. The only lines that lead on are those
 // that the writer would put there. The functions are parts: each may have a `requires`, which its callers prove.
 use wave_rules::Stage;
-use wave_rules::Verdict;
 ghost use mathlib.Core.Path.{_≡_};
 ghost use Prim.Native.Nat.{_+_, _<_, _≤_};
 ghost use mathlib.Core.Bool.{true, false};
 ghost use lib.Dec.{ltb};
-ghost use lib.ListN.{length};
+ghost use lib.ListN.{length, getD, drop};
 ghost use Rattle.choice.specs.Choice.{if_then_else_};
+ghost use Rattle.text.specs.Text.{isDigit};
 ghost use Rattle.wave_rules.specs.Lines.{same as Lines·same};
-ghost use Rattle.wave_rules.specs.Dump.{bitLine, varLine, upscope};
-ghost use Rattle.wave_rules.specs.Reader.{cellIn, afterVariable, afterValue, isChange, nextOf, bitsOf};
-ghost use Rattle.wave_rules.specs.Reader.{atEnd};
+ghost use Rattle.wave_rules.specs.Dump.{noBits, bitLine, varLine, upscope};
+ghost use Rattle.wave_rules.specs.Reader.{afterVariable, afterValue, nextOf};
 ghost use Rattle.wave_rules.specs.declared.Stage.the-variants.{Values, Waiting, Lost};
 ghost use Rattle.wave_rules.specs.Stages.{Reach};
-ghost use Rattle.wave_line.specs.Stages.{isLost, isChanging, gapOf, sumOf, stampOf, afterTime, onwardOf};
+ghost use Rattle.wave_line.specs.Stages.{isLost, Early, waitsOf};
+ghost use Rattle.wave_line.specs.Fronts.{noTime, timeFront, Walked, Stamped, changeFront};
 
 // ---- one line
 
@@ -110,89 +110,10 @@ fn after_value(n: usize, c: usize, line: &[u8]) -> Stage
     fixed(is_bit(line, 0, c as u8), value_after(n, c))
 }
 
-// What the digits behind a line's first byte come to; 0 if another byte stands among them.
-fn sum(line: &[u8]) -> usize
-    requires { ⌜ (1 ≤ length (now line)) × (length (now line) ≤ 6) ⌝ }
-    ensures { λ r. ⌜ r ≡ sumOf (now (line .entry)) ⌝ }
-{
-    let mut t: usize = 0;
-    let mut i = 1;
-    while i < line.len() {
-        let b = line[i];
-        if b < 48 {
-            return 0;
-        }
-        if 57 < b {
-            return 0;
-        }
-        t = 10 * t + (b - 48) as usize;
-        i += 1;
-    }
-    t
-}
-
-// The time of a time line, not printed to be compared; 0 if it is none, or later than any.
-fn stamp(line: &[u8]) -> usize
-    ensures { λ r. ⌜ r ≡ stampOf (now (line .entry)) ⌝ }
-{
-    if line.len() < 2 {
-        return 0;
-    }
-    if 6 < line.len() {
-        return 0;
-    }
-    if line[0] == 35 {
-        if line[1] == 48 {
-            return 0;
-        }
-        return sum(line);
-    }
-    0
-}
-
-// A time, which is later than the last.
-fn after_time(n: usize, last: usize, line: &[u8]) -> Stage
-    ensures { λ r. ⌜ r ≡ afterTime n last (now (line .entry)) ⌝ }
-{
-    let t = stamp(line);
-    if t <= last {
-        return Stage::Lost;
-    }
-    if 32768 < t {
-        return Stage::Lost;
-    }
-    Stage::Changing(n, last, t)
-}
-
-// The cell that a line names, 0 where it names none. A part: the reader calls it.
-pub fn cell_in(line: &[u8]) -> usize
-    ensures { λ r. ⌜ r ≡ cellIn (now (line .entry)) ⌝ }
-{
-    if line.len() < 2 {
-        return 0;
-    }
-    if line[1] < 33 {
-        return 0;
-    }
-    (line[1] - 33) as usize
-}
-
-fn is_change(n: usize, bits: &[u8; 94], line: &[u8]) -> bool
-    requires { ⌜ n ≤ 94 ⌝ }
-    ensures { λ r. ⌜ r ≡ isChange n (now (bits .entry)) (now (line .entry)) ⌝ }
-{
-    let cell = cell_in(line);
-    if cell < n {
-        let bit = wave_write::turned(bits[cell]);
-        return is_bit(line, bit, cell as u8);
-    }
-    false
-}
-
-// What a line leads to. A part: the reader calls it.
-pub fn next(stage: Stage, bits: &[u8; 94], line: &[u8]) -> Stage
-    requires { ⌜ Reach stage ⌝ }
-    ensures { λ r. ⌜ r ≡ nextOf stage (now (bits .entry)) (now (line .entry)) ⌝ }
+// What a line before the changes leads to. A part: the reader calls it.
+pub fn next(stage: Stage, line: &[u8]) -> Stage
+    requires { ⌜ Reach stage × Early stage ⌝ }
+    ensures { λ r. ⌜ r ≡ nextOf stage noBits (now (line .entry)) ⌝ }
 {
     match stage {
         Stage::Opening => fixed(same(line, b"$timescale 1 ns $end"), Stage::Scope),
@@ -201,26 +122,8 @@ pub fn next(stage: Stage, bits: &[u8; 94], line: &[u8]) -> Stage
         Stage::Ending(n) => fixed(same(line, b"$enddefinitions $end"), Stage::Start(n)),
         Stage::Start(n) => fixed(same(line, b"#0"), Stage::Values(n, 0)),
         Stage::Values(n, c) => after_value(n, c, line),
-        Stage::Waiting(n, last) => after_time(n, last, line),
-        Stage::Changing(n, _, t) => fixed(is_change(n, bits, line), Stage::Waiting(n, t)),
-        Stage::Lost => Stage::Lost,
-    }
-}
-
-// What a line leads to that was found right before. A part: the reader calls it.
-pub fn onward(stage: Stage, line: &[u8]) -> Stage
-    requires { ⌜ Reach stage ⌝ }
-    ensures { λ r. ⌜ r ≡ onwardOf stage (now (line .entry)) ⌝ }
-{
-    match stage {
-        Stage::Opening => Stage::Scope,
-        Stage::Scope => Stage::Variables(0),
-        Stage::Variables(n) => after_variable(n, line),
-        Stage::Ending(n) => Stage::Start(n),
-        Stage::Start(n) => Stage::Values(n, 0),
-        Stage::Values(n, c) => value_after(n, c),
-        Stage::Waiting(n, last) => Stage::Changing(n, last, stamp(line)),
-        Stage::Changing(n, _, t) => Stage::Waiting(n, t),
+        Stage::Waiting(_, _) => Stage::Lost,
+        Stage::Changing(_, _, _) => Stage::Lost,
         Stage::Lost => Stage::Lost,
     }
 }
@@ -252,56 +155,9 @@ pub fn is_lost(stage: Stage) -> bool
     }
 }
 
-// Whether a change is waited for. A part: the reader calls it.
-pub fn is_changing(stage: Stage) -> bool
-    ensures { λ r. ⌜ r ≡ isChanging stage ⌝ }
-{
-    match stage {
-        Stage::Opening => false,
-        Stage::Scope => false,
-        Stage::Variables(_) => false,
-        Stage::Ending(_) => false,
-        Stage::Start(_) => false,
-        Stage::Values(_, _) => false,
-        Stage::Waiting(_, _) => false,
-        Stage::Changing(_, _, _) => true,
-        Stage::Lost => false,
-    }
-}
-
-// The bits after a line that was taken. A part: the reader calls it.
-pub fn bits_after(stage: Stage, bits: &mut [u8; 94], line: &[u8])
-    requires { ⌜ Reach stage × (isLost (nextOf stage (now bits) (now line)) ≡ false) ⌝ }
-    ensures { λ r. ⌜ now (bits .exit) ≡ bitsOf stage (now (bits .entry)) (now (line .entry)) ⌝ }
-{
-    if is_changing(stage) {
-        let cell = cell_in(line);
-        let bit = bits[cell];
-        bits[cell] = wave_write::turned(bit);
-    }
-}
-
-// The verdict where the text ends. A part: the reader calls it.
-pub fn at_end(stage: Stage, k: usize) -> Verdict
-    ensures { λ r. ⌜ r ≡ atEnd stage k ⌝ }
-{
-    match stage {
-        Stage::Opening => Verdict::Bad(k),
-        Stage::Scope => Verdict::Bad(k),
-        Stage::Variables(_) => Verdict::Bad(k),
-        Stage::Ending(_) => Verdict::Bad(k),
-        Stage::Start(_) => Verdict::Bad(k),
-        Stage::Values(_, _) => Verdict::Bad(k),
-        Stage::Waiting(n, last) => Verdict::Fine(n, last),
-        Stage::Changing(_, _, _) => Verdict::Bad(k),
-        Stage::Lost => Verdict::Bad(k),
-    }
-}
-
-// How many steps only count before the change that is waited for. A part: the reader calls it.
-pub fn gap(stage: Stage) -> usize
-    requires { ⌜ Reach stage ⌝ }
-    ensures { λ r. ⌜ r ≡ gapOf stage ⌝ }
+// How many cells there are, where a time is waited for; 0 before. A part: the reader calls it.
+pub fn waits(stage: Stage) -> usize
+    ensures { λ r. ⌜ r ≡ waitsOf stage ⌝ }
 {
     match stage {
         Stage::Opening => 0,
@@ -310,8 +166,119 @@ pub fn gap(stage: Stage) -> usize
         Stage::Ending(_) => 0,
         Stage::Start(_) => 0,
         Stage::Values(_, _) => 0,
-        Stage::Waiting(_, _) => 0,
-        Stage::Changing(_, last, t) => t - 1 - last,
+        Stage::Waiting(n, _) => n,
+        Stage::Changing(_, _, _) => 0,
         Stage::Lost => 0,
     }
+}
+
+// ---- the two lines of a change
+
+// A time line that was read: its time, 0 where none stands, and where the next line begins.
+pub struct Time {
+    pub value: usize,
+    pub behind: usize,
+}
+
+fn no_time() -> Time
+    ensures { λ r. ⌜ r ≡ noTime ⌝ }
+{
+    Time {
+        value: 0,
+        behind: 0,
+    }
+}
+
+// What the walk over a time line comes to at a byte that is no digit: the line feed, or no time line.
+fn time_end(text: &[u8], at: usize, i: usize, t: usize) -> Time
+    requires { ⌜ Walked (now text) at t i × (i < length (now text)) × (i ≤ at + 6) ×
+        (getD (now text) at 0 ≡ 35) × (isDigit (getD (now text) i 0) ≡ false) ⌝ }
+    ensures { λ r. ⌜ Stamped (now (text .entry)) at r ⌝ }
+{
+    if text[i] != 10 {
+        return no_time();
+    }
+    if text[at + 1] == 48 {
+        return no_time();
+    }
+    Time {
+        value: t,
+        behind: i + 1,
+    }
+}
+
+// The walk up to `stop`, where the text ends or the longest time line does. A byte less 48, which wraps below 0, is
+// above 9 where it is no digit.
+fn walk(text: &[u8], at: usize, stop: usize) -> Time
+    requires { ⌜ (at < stop) × (stop ≤ length (now text)) × (stop ≤ at + 7) ×
+        (stop < length (now text) → at + 7 ≤ stop) × (getD (now text) at 0 ≡ 35) ⌝ }
+    ensures { λ r. ⌜ Stamped (now (text .entry)) at r ⌝ }
+{
+    let mut t: usize = 0;
+    let mut i = at + 1;
+    while i < stop {
+        let digit = std::num::wrapping_sub_usize(text[i] as usize, 48);
+        if 9 < digit {
+            return time_end(text, at, i, t);
+        }
+        t = 10 * t + digit;
+        i += 1;
+    }
+    no_time()
+}
+
+// The time line from `at` on, in one walk. Where seven bytes stand there, the walk has a fixed length, so that it is
+// compiled without a loop. A part: the reader calls it.
+pub fn time_at(text: &[u8], at: usize) -> Time
+    requires { ⌜ at < length (now text) ⌝ }
+    ensures { λ r. ⌜ Stamped (now (text .entry)) at r ⌝ }
+{
+    if text[at] != 35 {
+        return no_time();
+    }
+    if text.len() - at < 7 {
+        return walk(text, at, text.len());
+    }
+    walk(text, at, at + 7)
+}
+
+// The time line from `at` on, which is known to be one: its digits up to the line feed, one of the next six bytes. A
+// step: the reader calls it.
+pub fn time_in(text: &[u8], at: usize) -> Time
+    requires { ⌜ (at < length (now text)) × (0 < timeFront (drop at (now text))) ⌝ }
+    ensures { λ r. ⌜ Stamped (now (text .entry)) at r ⌝ }
+{
+    let mut t: usize = 0;
+    let mut i = at + 1;
+    while i < at + 7 {
+        let b = text[i] as usize;
+        if b == 10 {
+            return Time {
+                value: t,
+                behind: i + 1,
+            };
+        }
+        t = 10 * t + b - 48;
+        i += 1;
+    }
+    no_time()
+}
+
+// Whether the line from `at` on is a change: its three bytes stand at their places. A part: the reader calls it.
+pub fn is_change_at(text: &[u8], at: usize, n: usize, bits: &[u8; 94]) -> bool
+    requires { ⌜ (n ≤ 94) × (at ≤ length (now text)) ⌝ }
+    ensures { λ r. ⌜ r ≡ changeFront n (now (bits .entry)) (drop at (now (text .entry))) ⌝ }
+{
+    if text.len() - at < 3 {
+        return false;
+    }
+    if text[at + 2] != 10 {
+        return false;
+    }
+    let cell = std::num::wrapping_sub_usize(text[at + 1] as usize, 33);
+    if cell < n {
+        let bit = wave_write::turned(bits[cell]);
+        return text[at] == 48 + bit;
+    }
+    false
 }

@@ -5,27 +5,29 @@ use mathlib.Core.Logic.{_≢_}
 use mathlib.Core.List.{List, [], _∷_, _++_, append-assoc}
 use mathlib.Core.Bool.{Bool, true, false}
 use native.Mathlib.Omega.{arith}
-use lib.Dec.{eqb, leb}
+use lib.Dec.{eqb, ltb, leb}
 use lib.ListN.{length, getD, drop, take, set, length-append, length-drop, drop-of-length-le, replicate, length-replicate}
 use lib.Seq.{sets, drop-drop, length-take-le}
-use borrow.Author.Tests.{lt-ltb, le-ltb, le-leb, lt-leb, leb-true, leb-false, eqb-true, eqb-false}
+use borrow.Author.Tests.{ltb-true, ltb-false, lt-ltb, le-ltb, le-leb, lt-leb, leb-true, leb-false, eqb-true, eqb-false}
 use Rattle.choice.specs.Choice.{if_then_else_}
-use Rattle.choice.specs.Pick.{if-both}
 use Rattle.text.specs.Text.{before}
 use Rattle.wave_rules.specs.declared.Stage.{Stage}
 use Rattle.wave_rules.specs.declared.Stage.the-variants.{Opening, Scope, Variables, Ending, Start, Values, Waiting, Changing, Lost}
 use Rattle.wave_rules.specs.declared.Verdict.{Verdict}
 use Rattle.wave_rules.specs.declared.Verdict.the-variants.{Fine, Bad}
 use Rattle.wave_rules.specs.Lines.{torn, line, put, splitOf}
-use Rattle.wave_rules.specs.Dump.{noBits}
-use Rattle.wave_rules.specs.Reader.{cellIn, nextOf, bitsOf, atEnd, unless, verdictOf, idle, kindFor, scriptWordsAt, scriptWordsOf, read}
-use Rattle.wave_rules.specs.Stages.{false-not, bad-not, words-count}
+use Rattle.wave_rules.specs.Dump.{noBits, flipOf}
+use Rattle.wave_rules.specs.Reader.{cellIn, isChange, nextOf, bitsOf, atEnd, unless, verdictOf, idle, kindFor, scriptWordsAt, scriptWordsOf, read}
+use Rattle.wave_rules.specs.Stages.{Reach, reach-next, false-not, bad-not, idle-length, words-count}
 use Rattle.wave_rules.specs.Calls.{answered}
 use Rattle.wave_rules.specs.declared.Undumped.the-variants.{Read, NoRoom}
-use Rattle.wave_line.specs.Stages.{isLost, isChanging, gapOf}
-use Rattle.wave_line.specs.Laws.{long-lost}
+use Rattle.wave_line.specs.Stages.{isLost, Early, waitsOf, stampOf}
+use Rattle.wave_line.specs.Laws.{long-lost, next-waiting, early-bits, early-words, time-past, time-far, time-taken}
+use Rattle.wave_line.specs.Fronts.{before-within, timeFront, Stamped, changeFront, change-told}
+use Rattle.wave_line.specs.declared.Time.{Time}
+use Rattle.wave_read.specs.declared.Header.{Header}
 use Rattle.print.specs.Print.{putOf}
-use Rattle.print.specs.Laws.{put-none, put-join, put-more}
+use Rattle.print.specs.Laws.{put-none, put-join, put-first, put-more, put-place}
 use Rattle.wave_write.specs.Laws.{put-size}
 
 -- ---- stages
@@ -81,11 +83,6 @@ split-at (b ∷ l) h = go (eqb b 10) (split-at l) h
         let e : 1 + before 10 l ≡ suc (before 10 l) = omega arith in
         let d : suc (before 10 l) + 1 ≡ suc (before 10 l + 1) = omega arith in
         rw (e, d, f (omega arith))
-
-before-within : (l : List ℕ) → before 10 l ≤ length l
-unfolding before
-before-within [] = omega arith
-before-within (b ∷ l) = if-both (λ (n : ℕ). n ≤ suc (length l)) (eqb b 10) (omega arith) (omega (arith, before-within l))
 
 -- a line feed among the first m bytes is the first of all
 before-front : (m : ℕ) (l : List ℕ) → before 10 (take m l) < m → before 10 l ≡ before 10 (take m l)
@@ -212,6 +209,10 @@ pub zeros-turn : (l : List ℕ) (i k n : ℕ) → k < n
     → putOf l i (replicate (n - k) 0) ≡ putOf (set l i 0) (i + 1) (replicate (n - (k + 1)) 0)
 zeros-turn l i k n h = let e : n - k ≡ suc (n - (k + 1)) = omega arith in rw e (sym (put-more l i 0 (replicate (n - (k + 1)) 0)))
 
+-- where it ends
+pub zeros-place : (l m : List ℕ) (at a n : ℕ) → (a, m) ≡ putOf l at (replicate n 0) → a ≡ at + n
+zeros-place l m at a n e = omega (arith, put-place l m at a (replicate n 0) e, length-replicate {A = ℕ} n 0)
+
 pub zeros-end : (l : List ℕ) (i k n : ℕ) → n ≤ k → (i, l) ≡ putOf l i (replicate (n - k) 0)
 zeros-end l i k n h = let e : n - k ≡ 0 = omega arith in rw e (put-none l i)
 
@@ -225,71 +226,290 @@ unfolding idle
 idle-zeros zero w = refl
 idle-zeros (suc g) w = let e : 3 * suc g ≡ suc (suc (suc (3 * g))) = omega arith in rw (e, idle-zeros g w)
 
-still-words : (s : Stage) (bits x w : List ℕ) → isChanging s ≡ false → scriptWordsAt s bits x w ≡ w
-still-words Opening bits x w e = refl
-still-words Scope bits x w e = refl
-still-words (Variables n) bits x w e = refl
-still-words (Ending n) bits x w e = refl
-still-words (Start n) bits x w e = refl
-still-words (Values n c) bits x w e = refl
-still-words (Waiting n last) bits x w e = refl
-still-words (Changing n last t) bits x w e = false-not (sym e)
-still-words Lost bits x w e = refl
+-- those of a change: zeros, and its own three
+pub change-put : (out m o : List ℕ) (at a r gap kind cell : ℕ) → (a, m) ≡ putOf out at (replicate (3 * gap) 0)
+    → (r, o) ≡ putOf m a (kind ∷ cell ∷ 0 ∷ []) → (r, o) ≡ putOf out at (idle gap (kind ∷ cell ∷ 0 ∷ []))
+change-put out m o at a r gap kind cell f g = rw (idle-zeros gap (kind ∷ cell ∷ 0 ∷ [])) (put-join out m o at a r (replicate (3 * gap) 0) (kind ∷ cell ∷ 0 ∷ []) f g)
 
-change-words : (s : Stage) (bits x w : List ℕ) → isChanging s ≡ true
-    → scriptWordsAt s bits x w ≡ idle (gapOf s) (kindFor (getD bits (cellIn x) 0) ∷ cellIn x ∷ 0 ∷ w)
-change-words Opening bits x w e = false-not e
-change-words Scope bits x w e = false-not e
-change-words (Variables n) bits x w e = false-not e
-change-words (Ending n) bits x w e = false-not e
-change-words (Start n) bits x w e = false-not e
-change-words (Values n c) bits x w e = false-not e
-change-words (Waiting n last) bits x w e = false-not e
-change-words (Changing n last t) bits x w e = refl
-change-words Lost bits x w e = false-not e
-
--- the words that a line adds stand before those that follow
-pub words-append : (s : Stage) (bits x w : List ℕ) → scriptWordsAt s bits x w ≡ scriptWordsAt s bits x [] ++ w
-words-append s bits x w = go (isChanging s) refl
-  where
-    go : (b : Bool) → isChanging s ≡ b → scriptWordsAt s bits x w ≡ scriptWordsAt s bits x [] ++ w
-    go true e =
-        let k : ℕ = kindFor (getD bits (cellIn x) 0) in
-        rw (change-words s bits x w e, change-words s bits x [] e, idle-zeros (gapOf s) (k ∷ cellIn x ∷ 0 ∷ w), idle-zeros (gapOf s) (k ∷ cellIn x ∷ 0 ∷ [])) (sym (append-assoc (replicate (3 * gapOf s) 0) (k ∷ cellIn x ∷ 0 ∷ []) w))
-    go false e = rw (still-words s bits x w e, still-words s bits x [] e)
-
-pub words-none : (s : Stage) (bits x out : List ℕ) (at : ℕ) → isChanging s ≡ false
-    → (at, out) ≡ putOf out at (scriptWordsAt s bits x [])
-words-none s bits x out at e = rw (still-words s bits x [] e) (put-none out at)
-
-pub words-some : (s : Stage) (bits x out m o : List ℕ) (at a r kind cell : ℕ) → isChanging s ≡ true
-    → kind ≡ kindFor (getD bits (cellIn x) 0) → cell ≡ cellIn x
-    → (a, m) ≡ putOf out at (replicate (3 * gapOf s) 0) → (r, o) ≡ putOf m a (kind ∷ cell ∷ 0 ∷ []) → (r, o) ≡ putOf out at (scriptWordsAt s bits x [])
-words-some s bits x out m o at a r kind cell e p q f g =
-    rw (change-words s bits x [] e, idle-zeros (gapOf s) (kindFor (getD bits (cellIn x) 0) ∷ cellIn x ∷ 0 ∷ []), ← p, ← q)
-    (put-join out m o at a r (replicate (3 * gapOf s) 0) (kind ∷ cell ∷ 0 ∷ []) f g)
-
-pub words-size : (s : Stage) (bits x : List ℕ) → isChanging s ≡ true → length (scriptWordsAt s bits x []) ≡ 3 * gapOf s + 3
-words-size s bits x e =
-    rw (change-words s bits x [] e, idle-zeros (gapOf s) (kindFor (getD bits (cellIn x) 0) ∷ cellIn x ∷ 0 ∷ []))
-    (omega (arith, length-append (replicate (3 * gapOf s) 0) (kindFor (getD bits (cellIn x) 0) ∷ cellIn x ∷ 0 ∷ []), length-replicate {A = ℕ} (3 * gapOf s) 0))
+-- they stand before those that follow
+idle-append : (gap kind cell : ℕ) (w : List ℕ) → idle gap (kind ∷ cell ∷ 0 ∷ w) ≡ idle gap (kind ∷ cell ∷ 0 ∷ []) ++ w
+idle-append gap kind cell w = rw (idle-zeros gap (kind ∷ cell ∷ 0 ∷ w), idle-zeros gap (kind ∷ cell ∷ 0 ∷ [])) (sym (append-assoc (replicate (3 * gap) 0) (kind ∷ cell ∷ 0 ∷ []) w))
 
 -- the words of a line, and the rest
-pub words-line : (text : List ℕ) (at end : ℕ) (s after : Stage) (bits b : List ℕ) → end ≡ at + before 10 (drop at text)
-    → end < length text → after ≡ nextOf s bits (take (end - at) (drop at text))
-    → b ≡ bitsOf s bits (take (end - at) (drop at text))
-    → scriptWordsOf s bits (splitOf (drop at text)) ≡ scriptWordsAt s bits (take (end - at) (drop at text)) [] ++ scriptWordsOf after b (splitOf (drop (end + 1) text))
+words-line : (text : List ℕ) (at end : ℕ) (s : Stage) (bits : List ℕ) → end ≡ at + before 10 (drop at text)
+    → end < length text
+    → scriptWordsOf s bits (splitOf (drop at text)) ≡ scriptWordsAt s bits (take (end - at) (drop at text)) (scriptWordsOf (nextOf s bits (take (end - at) (drop at text))) (bitsOf s bits (take (end - at) (drop at text))) (splitOf (drop (end + 1) text)))
 unfolding scriptWordsOf
-words-line text at end s after bits b e h n m =
+words-line text at end s bits e h =
     let o : before 10 (drop at text) ≡ end - at = omega arith in
     let i : at + (before 10 (drop at text) + 1) ≡ end + 1 = omega arith in
     let q : drop (before 10 (drop at text) + 1) (drop at text) ≡ drop (end + 1) text = drop-drop (before 10 (drop at text) + 1) at text ∙ ap (λ (j : ℕ). drop j text) i in
-    rw (split-at (drop at text) (omega (arith, length-drop at text)), q, o, ← n, ← m) (words-append s bits (take (end - at) (drop at text)) (scriptWordsOf after b (splitOf (drop (end + 1) text))))
+    rw (split-at (drop at text) (omega (arith, length-drop at text)), q, o)
 
 pub words-end : (text : List ℕ) (at : ℕ) (s : Stage) (bits : List ℕ) → length text ≤ at
     → scriptWordsOf s bits (splitOf (drop at text)) ≡ []
 unfolding scriptWordsOf splitOf
 words-end text at s bits h = rw (drop-of-length-le text h)
+
+-- ---- the lines before the changes
+
+-- no such text
+abbrev pub wrongOf : ℕ → Header
+wrongOf k = record { at = 0; cells = 0; line = k }
+
+-- where the changes begin, what they come to is what the text comes to
+pub record Onward (text : List ℕ) (at n k : ℕ) : Type 0 where
+  pub few : n ≤ 94
+  pub within : at ≤ length text
+  pub lines : k ≤ at + 1
+  pub verdict : verdictOf k (Waiting n 0) noBits (splitOf (drop at text)) ≡ verdictOf 1 Opening noBits (splitOf text)
+  pub words : scriptWordsOf (Waiting n 0) noBits (splitOf (drop at text)) ≡ scriptWordsOf Opening noBits (splitOf text)
+
+pub record Headed (text : List ℕ) (h : Header) : Type 0 where
+  pub wrong : h .cells ≡ 0 → Bad (h .line) ≡ verdictOf 1 Opening noBits (splitOf text)
+  pub right : 0 < h .cells → Onward text (h .at) (h .cells) (h .line)
+
+pub headed-wrong : (text : List ℕ) (h : Header) (k : ℕ) → h ≡ wrongOf k → Bad k ≡ verdictOf 1 Opening noBits (splitOf text)
+    → Headed text h
+headed-wrong text h k e f = rw e (record { wrong = (λ z. f); right = (λ z. absurd (omega arith)) })
+
+-- a line before the changes adds no word
+pub early-turn : (text : List ℕ) (at end : ℕ) (s after : Stage) → Early s → end ≡ at + before 10 (drop at text)
+    → end < length text → after ≡ nextOf s noBits (take (end - at) (drop at text))
+    → scriptWordsOf after noBits (splitOf (drop (end + 1) text)) ≡ scriptWordsOf s noBits (splitOf (drop at text))
+early-turn text at end s after b e h n =
+    let x : List ℕ = take (end - at) (drop at text) in
+    sym (words-line text at end s noBits e h ∙ early-words s noBits x _ b ∙ rw (← n, early-bits s noBits x b))
+
+pub early-scan : (text : List ℕ) (at end k : ℕ) (s after : Stage) → Early s → end ≡ at + before 10 (drop at text)
+    → end < length text → after ≡ nextOf s noBits (take (end - at) (drop at text)) → isLost after ≡ false
+    → verdictOf (k + 1) after noBits (splitOf (drop (end + 1) text)) ≡ verdictOf k s noBits (splitOf (drop at text))
+early-scan text at end k s after b e h n l = scan-turn text at end k s after noBits noBits e h n l (sym (early-bits s noBits (take (end - at) (drop at text)) b))
+
+-- the last of them
+pub headed-right : (text : List ℕ) (at end k : ℕ) (s after : Stage) (cells : ℕ) → Reach s → Early s → k ≤ at + 1
+    → end ≡ at + before 10 (drop at text) → end < length text → after ≡ nextOf s noBits (take (end - at) (drop at text))
+    → isLost after ≡ false → cells ≡ waitsOf after → 0 < cells
+    → verdictOf k s noBits (splitOf (drop at text)) ≡ verdictOf 1 Opening noBits (splitOf text)
+    → scriptWordsOf s noBits (splitOf (drop at text)) ≡ scriptWordsOf Opening noBits (splitOf text)
+    → Headed text (record { at = end + 1; cells = cells; line = k + 1 })
+headed-right text at end k s after cells r b j e h n l c p v w =
+    let x : List ℕ = take (end - at) (drop at text) in
+    let is : after ≡ Waiting cells 0 = rw c (next-waiting s noBits x b after n (omega (arith, c))) in
+    let reached : Reach after = rw n (reach-next s noBits x r) in
+    let few : (1 ≤ cells) × (cells ≤ 94) = rw is at reached in
+    record {
+      wrong = (λ z. absurd (omega arith));
+      right = (λ z. record {
+        few = few .1;
+        within = omega arith;
+        lines = omega arith;
+        verdict = rw is at (early-scan text at end k s after b e h n l) ∙ v;
+        words = rw is at (early-turn text at end s after b e h n) ∙ w;
+      });
+    }
+
+-- ---- the changes
+
+-- what they come to is of these cells
+abbrev pub OfCells : ℕ → Verdict → Type 0
+OfCells n (Fine m last) = m ≡ n
+OfCells n (Bad k) = Unit {0}
+
+-- where a time is waited for
+module _ (text : List ℕ) (at n last : ℕ) (bits : List ℕ) where
+  -- the line is lost, or torn
+  wait-lost : (k t : ℕ) → at < length text → t ≡ timeFront (drop at text)
+      → ((x : List ℕ) → t ≡ stampOf x → Lost ≡ nextOf (Waiting n last) bits x)
+      → Bad k ≡ verdictOf k (Waiting n last) bits (splitOf (drop at text))
+  unfolding timeFront
+  wait-lost k t h e f = go (ltb (before 10 (drop at text)) (length (drop at text))) refl
+    where
+      end : ℕ
+      end = at + before 10 (drop at text)
+
+      same-end : before 10 (drop at text) ≡ end - at
+      same-end = omega arith
+
+      go : (b : Bool) → ltb (before 10 (drop at text)) (length (drop at text)) ≡ b → Bad k ≡ verdictOf k (Waiting n last) bits (splitOf (drop at text))
+      go true p =
+          let inside = ltb-true (before 10 (drop at text)) (length (drop at text)) p in
+          let s : t ≡ stampOf (take (end - at) (drop at text)) = rw (p, same-end) at e in
+          scan-lost text at end k (Waiting n last) Lost bits refl (omega (arith, length-drop at text)) (f (take (end - at) (drop at text)) s) refl
+      go false p =
+          let beyond = ltb-false (before 10 (drop at text)) (length (drop at text)) p in
+          scan-torn text at end k (Waiting n last) bits h refl (omega (arith, before-within (drop at text), length-drop at text))
+
+  pub wait-past : (k t : ℕ) → at < length text → t ≡ timeFront (drop at text) → t ≤ last
+      → Bad k ≡ verdictOf k (Waiting n last) bits (splitOf (drop at text))
+  wait-past k t h e l = wait-lost k t h e (λ x s. time-past n last x t s l)
+
+  pub wait-far : (k t : ℕ) → at < length text → t ≡ timeFront (drop at text) → 32768 < t
+      → Bad k ≡ verdictOf k (Waiting n last) bits (splitOf (drop at text))
+  wait-far k t h e l = wait-lost k t h e (λ x s. time-far n last x t s l)
+
+  -- the line is taken
+  module _ (t : ℕ) (e : t ≡ timeFront (drop at text)) (l : last < t) (m : t ≤ 32768) where
+    taken : ltb (before 10 (drop at text)) (length (drop at text)) ≡ true
+    unfolding timeFront
+    taken = go (ltb (before 10 (drop at text)) (length (drop at text))) refl
+      where
+        go : (b : Bool) → ltb (before 10 (drop at text)) (length (drop at text)) ≡ b → b ≡ true
+        go true p = refl
+        go false p = let z : t ≡ 0 = rw p at e in absurd (omega arith)
+
+    inside : at + before 10 (drop at text) < length text
+    inside = omega (arith, ltb-true (before 10 (drop at text)) (length (drop at text)) taken, length-drop at text)
+
+    leads : Changing n last t ≡ nextOf (Waiting n last) bits (take (at + before 10 (drop at text) - at) (drop at text))
+    unfolding timeFront
+    leads =
+        let o : before 10 (drop at text) ≡ at + before 10 (drop at text) - at = omega arith in
+        let s : t ≡ stampOf (take (at + before 10 (drop at text) - at) (drop at text)) = rw taken at e ∙ ap (λ (j : ℕ). stampOf (take j (drop at text))) o in
+        time-taken n last (take (at + before 10 (drop at text) - at) (drop at text)) t s l m
+
+    pub wait-right : (k behind : ℕ) → behind ≡ at + before 10 (drop at text) + 1
+        → verdictOf (k + 1) (Changing n last t) bits (splitOf (drop behind text)) ≡ verdictOf k (Waiting n last) bits (splitOf (drop at text))
+    wait-right k behind b = rw b (scan-turn text at (at + before 10 (drop at text)) k (Waiting n last) (Changing n last t) bits bits refl inside leads refl refl)
+
+    pub wait-words : (behind : ℕ) → behind ≡ at + before 10 (drop at text) + 1
+        → scriptWordsOf (Changing n last t) bits (splitOf (drop behind text)) ≡ scriptWordsOf (Waiting n last) bits (splitOf (drop at text))
+    wait-words behind b = rw b (sym (words-line text at (at + before 10 (drop at text)) (Waiting n last) bits refl inside ∙ rw (← leads)))
+
+-- where a change is waited for
+module _ (text : List ℕ) (at n last t : ℕ) (bits : List ℕ) where
+  pub change-wrong : (k : ℕ) → changeFront n bits (drop at text) ≡ false
+      → Bad k ≡ verdictOf k (Changing n last t) bits (splitOf (drop at text))
+  unfolding changeFront
+  change-wrong k e = go (ltb at (length text)) refl (ltb (before 10 (drop at text)) (length (drop at text))) refl
+    where
+      end : ℕ
+      end = at + before 10 (drop at text)
+
+      lost : isChange n bits (take (end - at) (drop at text)) ≡ false → Lost ≡ nextOf (Changing n last t) bits (take (end - at) (drop at text))
+      lost f = rw f
+
+      go : (a : Bool) → ltb at (length text) ≡ a → (b : Bool) → ltb (before 10 (drop at text)) (length (drop at text)) ≡ b
+          → Bad k ≡ verdictOf k (Changing n last t) bits (splitOf (drop at text))
+      go true p true q =
+          let inside = ltb-true (before 10 (drop at text)) (length (drop at text)) q in
+          let o : before 10 (drop at text) ≡ end - at = omega arith in
+          let f : isChange n bits (take (end - at) (drop at text)) ≡ false = rw (q, o) at e in
+          scan-lost text at end k (Changing n last t) Lost bits refl (omega (arith, length-drop at text)) (lost f) refl
+      go true p false q =
+          let beyond = ltb-false (before 10 (drop at text)) (length (drop at text)) q in
+          scan-torn text at end k (Changing n last t) bits (ltb-true at (length text) p) refl (omega (arith, ltb-true at (length text) p, before-within (drop at text), length-drop at text))
+      go false p b q = scan-end text at k (Changing n last t) bits (ltb-false at (length text) p)
+
+  module _ (e : changeFront n bits (drop at text) ≡ true) (cell : ℕ) (c : cell ≡ getD text (at + 1) 0 - 33) where
+    abbrev told : List ℕ
+    told = take (at + 2 - at) (drop at text)
+
+    told-is : take (before 10 (drop at text)) (drop at text) ≡ told
+    told-is = let o : before 10 (drop at text) ≡ at + 2 - at = omega (arith, change-told text at n bits e .0) in rw o
+
+    leads-on : Waiting n t ≡ nextOf (Changing n last t) bits told
+    leads-on = let f : isChange n bits told ≡ true = rw told-is at (change-told text at n bits e .5) in rw f
+
+    named : cellIn told ≡ cell
+    named = sym (ap cellIn told-is) ∙ change-told text at n bits e .4 ∙ sym c
+
+    pub change-right : (k : ℕ) → verdictOf (k + 1) (Waiting n t) (flipOf bits cell) (splitOf (drop (at + 3) text)) ≡ verdictOf k (Changing n last t) bits (splitOf (drop at text))
+    change-right k =
+        let d = change-told text at n bits e in
+        let i : at + 2 + 1 ≡ at + 3 = omega arith in
+        rw (← i) (scan-turn text at (at + 2) k (Changing n last t) (Waiting n t) bits (flipOf bits cell) (omega (arith, d .0)) (omega (arith, d .1)) leads-on refl (ap (λ (j : ℕ). flipOf bits j) (sym named)))
+
+    pub change-words : scriptWordsOf (Changing n last t) bits (splitOf (drop at text)) ≡ idle (t - (last + 1)) (kindFor (getD bits cell 0) ∷ cell ∷ 0 ∷ []) ++ scriptWordsOf (Waiting n t) (flipOf bits cell) (splitOf (drop (at + 3) text))
+    change-words =
+        let d = change-told text at n bits e in
+        let i : at + 2 + 1 ≡ at + 3 = omega arith in
+        words-line text at (at + 2) (Changing n last t) bits (omega (arith, d .0)) (omega (arith, d .1))
+        ∙ rw (← leads-on, named, i) (idle-append (t - (last + 1)) (kindFor (getD bits cell 0)) cell (scriptWordsOf (Waiting n t) (flipOf bits cell) (splitOf (drop (at + 3) text))))
+
+-- ---- changes that are right
+
+pub record Right (text : List ℕ) (at n last : ℕ) (bits : List ℕ) : Type 0 where
+  pub number : ℕ
+  pub end : ℕ
+  pub fine : verdictOf number (Waiting n last) bits (splitOf (drop at text)) ≡ Fine n end
+
+-- a time and a change stand there
+pub right-time : (text : List ℕ) (at n last : ℕ) (bits : List ℕ) → at < length text → Right text at n last bits
+    → (last < timeFront (drop at text)) × (timeFront (drop at text) ≤ 32768)
+right-time text at n last bits h r = go (ltb last (timeFront (drop at text))) refl (leb (timeFront (drop at text)) 32768) refl
+  where
+    go : (a : Bool) → ltb last (timeFront (drop at text)) ≡ a → (b : Bool) → leb (timeFront (drop at text)) 32768 ≡ b
+        → (last < timeFront (drop at text)) × (timeFront (drop at text) ≤ 32768)
+    go true p true q = (ltb-true last (timeFront (drop at text)) p, leb-true (timeFront (drop at text)) 32768 q)
+    go true p false q = bad-not (wait-far text at n last bits (r .number) (timeFront (drop at text)) h refl (leb-false (timeFront (drop at text)) 32768 q) ∙ r .fine)
+    go false p b q = bad-not (wait-past text at n last bits (r .number) (timeFront (drop at text)) h refl (ltb-false last (timeFront (drop at text)) p) ∙ r .fine)
+
+module _ (text : List ℕ) (at n last : ℕ) (bits : List ℕ) (h : at < length text) (r : Right text at n last bits) (t behind : ℕ)
+    (e : t ≡ timeFront (drop at text)) (b : behind ≡ at + before 10 (drop at text) + 1) where
+  later : (last < t) × (t ≤ 32768)
+  later = let p = right-time text at n last bits h r in (omega (arith, p .0, e), omega (arith, p .1, e))
+
+  pub right-change : changeFront n bits (drop behind text) ≡ true
+  right-change = go (changeFront n bits (drop behind text)) refl
+    where
+      go : (a : Bool) → changeFront n bits (drop behind text) ≡ a → a ≡ true
+      go true p = refl
+      go false p = bad-not (change-wrong text behind n last t bits (r .number + 1) p ∙ wait-right text at n last bits t e (later .0) (later .1) (r .number) behind b ∙ r .fine)
+
+  pub right-turn : (cell : ℕ) → cell ≡ getD text (behind + 1) 0 - 33 → Right text (behind + 3) n t (flipOf bits cell)
+  right-turn cell c = record {
+    number = r .number + 1 + 1;
+    end = r .end;
+    fine = change-right text behind n last t bits right-change cell c (r .number + 1) ∙ wait-right text at n last bits t e (later .0) (later .1) (r .number) behind b ∙ r .fine;
+  }
+
+  pub right-words : (cell : ℕ) → cell ≡ getD text (behind + 1) 0 - 33
+      → scriptWordsOf (Waiting n last) bits (splitOf (drop at text)) ≡ idle (t - (last + 1)) (kindFor (getD bits cell 0) ∷ cell ∷ 0 ∷ []) ++ scriptWordsOf (Waiting n t) (flipOf bits cell) (splitOf (drop (behind + 3) text))
+  right-words cell c = sym (wait-words text at n last bits t e (later .0) (later .1) behind b) ∙ change-words text behind n last t bits right-change cell c
+
+-- what a time and a change that are right tell
+pub record Pair (text : List ℕ) (at n last : ℕ) (bits : List ℕ) (s : Time) : Type 0 where
+  pub later : last < s .value
+  pub ahead : at < s .behind
+  pub inside : s .behind + 3 ≤ length text
+  pub code : 33 ≤ getD text (s .behind + 1) 0
+  pub cell : getD text (s .behind + 1) 0 - 33 < n
+  pub turn : Right text (s .behind + 3) n (s .value) (flipOf bits (getD text (s .behind + 1) 0 - 33))
+  pub words : scriptWordsOf (Waiting n last) bits (splitOf (drop at text))
+      ≡ idle (s .value - (last + 1)) (kindFor (getD bits (getD text (s .behind + 1) 0 - 33) 0) ∷ (getD text (s .behind + 1) 0 - 33) ∷ 0 ∷ []) ++ scriptWordsOf (Waiting n (s .value)) (flipOf bits (getD text (s .behind + 1) 0 - 33)) (splitOf (drop (s .behind + 3) text))
+
+pub pair-of : (text : List ℕ) (at n last : ℕ) (bits : List ℕ) (s : Time) → at < length text → Right text at n last bits
+    → Stamped text at s → Pair text at n last bits s
+pair-of text at n last bits s h r st =
+    let q = right-time text at n last bits h r in
+    let l : last < s .value = omega (arith, q .0, st .told) in
+    let b = st .next (omega arith) in
+    let d = change-told text (s .behind) n bits (right-change text at n last bits h r (s .value) (s .behind) (st .told) (b .0)) in
+    record {
+      later = l;
+      ahead = omega (arith, b .0);
+      inside = d .1;
+      code = d .2;
+      cell = d .3;
+      turn = right-turn text at n last bits h r (s .value) (s .behind) (st .told) (b .0) _ refl;
+      words = right-words text at n last bits h r (s .value) (s .behind) (st .told) (b .0) _ refl;
+    }
+
+-- a text that is fine, with its changes from here on
+pub record Begun (text : List ℕ) (at n last : ℕ) : Type 0 where
+  pub few : n ≤ 94
+  pub within : at ≤ length text
+  pub right : Right text at n 0 noBits
+  pub words : scriptWordsOf (Waiting n 0) noBits (splitOf (drop at text)) ≡ scriptWordsOf Opening noBits (splitOf text)
+  pub fine : verdictOf 1 Opening noBits (splitOf text) ≡ Fine n last
+
+pub begun-of : (text : List ℕ) (at cells k n last : ℕ) (v : Verdict) → Onward text at cells k
+    → v ≡ verdictOf k (Waiting cells 0) noBits (splitOf (drop at text)) → OfCells cells v → v ≡ Fine n last → Begun text at n last
+begun-of text at cells k n last v o e c f =
+    let s : n ≡ cells = rw f at c in
+    let g : verdictOf k (Waiting cells 0) noBits (splitOf (drop at text)) ≡ Fine cells last = sym e ∙ f ∙ ap (λ (m : ℕ). Fine m last) s in
+    rw s (record { few = o .few; within = o .within; right = record { number = k; end = last; fine = g }; words = o .words; fine = sym (o .verdict) ∙ g })
 
 -- ---- the room
 
@@ -314,37 +534,16 @@ give-some text out o n last e h p =
 
 -- ---- the loop that fills
 
--- the words of a line are put, and the rest is left to put
-pub words-turn : (text : List ℕ) (at end : ℕ) (s after : Stage) (bits b : List ℕ) (out m : List ℕ) (i j : ℕ)
-    → end ≡ at + before 10 (drop at text) → end < length text → after ≡ nextOf s bits (take (end - at) (drop at text))
-    → b ≡ bitsOf s bits (take (end - at) (drop at text))
-    → (j, m) ≡ putOf out i (scriptWordsAt s bits (take (end - at) (drop at text)) []) → putOf m j (scriptWordsOf after b (splitOf (drop (end + 1) text))) ≡ putOf out i (scriptWordsOf s bits (splitOf (drop at text)))
-words-turn text at end s after bits b out m i j e h n o p =
-    let w : List ℕ = scriptWordsOf after b (splitOf (drop (end + 1) text)) in
-    rw (words-line text at end s after bits b e h n o) (put-join out m (putOf m j w .1) i j (putOf m j w .0) (scriptWordsAt s bits (take (end - at) (drop at text)) []) w p refl)
+-- the words of a change are put, and the rest is left to put
+pub put-turn : (out m : List ℕ) (i j : ℕ) (all x w : List ℕ) → all ≡ x ++ w → (j, m) ≡ putOf out i x → putOf m j w ≡ putOf out i all
+put-turn out m i j all x w e p = rw e (put-first out m i j x w p)
 
--- there is room for the words of a line
-pub words-room : (text : List ℕ) (at end : ℕ) (s : Stage) (bits out m : List ℕ) (i j : ℕ) (y : List ℕ)
-    → end ≡ at + before 10 (drop at text) → end < length text
-    → putOf out i (scriptWordsOf s bits (splitOf (drop at text))) ≡ putOf m j y → i + length (scriptWordsAt s bits (take (end - at) (drop at text)) []) ≤ j + length y
-words-room text at end s bits out m i j y e h p =
-    let x : List ℕ = take (end - at) (drop at text) in
-    let w : List ℕ = scriptWordsOf (nextOf s bits x) (bitsOf s bits x) (splitOf (drop (end + 1) text)) in
-    omega (arith, put-size out m i j (scriptWordsOf s bits (splitOf (drop at text))) y p, ap length (words-line text at end s (nextOf s bits x) bits (bitsOf s bits x) e h refl refl), length-append (scriptWordsAt s bits x []) w)
+-- there is room for them
+pub put-room : (out m : List ℕ) (i j : ℕ) (all y : List ℕ) (gap kind cell : ℕ) (w : List ℕ)
+    → all ≡ idle gap (kind ∷ cell ∷ 0 ∷ []) ++ w → putOf out i all ≡ putOf m j y → i + 3 * gap + 3 ≤ j + length y
+put-room out m i j all y gap kind cell w e p =
+    omega (arith, put-size out m i j all y p, ap length e, length-append (idle gap (kind ∷ cell ∷ 0 ∷ [])) w, idle-length gap (kind ∷ cell ∷ 0 ∷ []))
 
 pub put-all : (l m : List ℕ) (i : ℕ) (x : List ℕ) → putOf m i [] ≡ putOf l 0 x → m ≡ sets l 0 x
 unfolding putOf
 put-all l m i x e = ap (λ (o : ℕ × List ℕ). o .1) e
-
--- no line of a text that is fine is wrong
-pub not-bad : {A : Type 0} (k n last : ℕ) (v : Verdict) → Bad k ≡ v → v ≡ Fine n last → A
-not-bad k n last v e f = bad-not (e ∙ f)
-
-pub scan-live : (text : List ℕ) (at end k n last : ℕ) (s : Stage) (bits : List ℕ) → end ≡ at + before 10 (drop at text)
-    → end < length text → verdictOf k s bits (splitOf (drop at text)) ≡ Fine n last
-    → isLost (nextOf s bits (take (end - at) (drop at text))) ≡ false
-scan-live text at end k n last s bits e h v = go (isLost (nextOf s bits (take (end - at) (drop at text)))) refl
-  where
-    go : (t : Bool) → isLost (nextOf s bits (take (end - at) (drop at text))) ≡ t → isLost (nextOf s bits (take (end - at) (drop at text))) ≡ false
-    go true p = not-bad k n last _ (scan-lost text at end k s _ bits e h refl p) v
-    go false p = p

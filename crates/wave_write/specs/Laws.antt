@@ -1,5 +1,5 @@
 -- Laws of lines put into a run, and of their lengths.
-use Prim.Native.Nat.{ℕ, zero, suc, _+_, _*_, _-_, _≤_, _<_}
+use Prim.Native.Nat.{ℕ, zero, suc, _+_, _*_, _-_, _/_, _%_, _≤_, _<_}
 use mathlib.Core.Path.{_≡_, refl, sym, ap, _∙_}
 use mathlib.Core.List.{List, [], _∷_, _++_, append-assoc}
 use mathlib.Core.Bool.{Bool, true, false}
@@ -7,13 +7,13 @@ use native.Mathlib.Omega.{arith}
 use lib.Dec.{eqb}
 use lib.ListN.{length, getD, drop, length-append, length-drop}
 use lib.Seq.{sets}
-use borrow.Author.Tests.{eqb-true}
+use borrow.Author.Tests.{eqb-true, lt-ltb}
 use Rattle.choice.specs.Lists.{drop-three}
 use Rattle.choice.specs.Choice.{if_then_else_}
 use Rattle.choice.specs.Pick.{if-both}
 use Rattle.print.specs.Print.{putOf}
 use Rattle.print.specs.Laws.{put-none, put-join, put-place}
-use Rattle.text.specs.Decimal.{digitCountIn, digitCount, decimalOf, length-decimal, digit-count-most, digit-count-few}
+use Rattle.text.specs.Decimal.{digitCountIn, digitCount, decimalOf, length-decimal, digit-count-most, digit-count-few, digit-count-is}
 use Rattle.wave_rules.specs.Lines.{joined}
 use Rattle.wave_rules.specs.Dump.{noBits, turns, turned, changesOf, flipOf, timescale, scopeLine, upscope, endLine, timeLine, bitLine, varLine, eachOf, varsOf, firstOf, bodyOf, middleOf, linesOf, dumpOf}
 use Rattle.wave_rules.specs.declared.Dumped.{Dumped}
@@ -129,6 +129,36 @@ put-two l m i j x y ls e =
 -- the number of a cell or of a step
 pub five-digits : (t : ℕ) → t < 100000 → digitCount t ≤ 5
 five-digits t h = digit-count-few t 5 (omega arith) (omega arith) (omega arith)
+
+-- the digits of a time that has five
+five-are : (t : ℕ) → 10000 ≤ t → t < 100000
+    → decimalOf t ≡ (48 + t / 10 / 10 / 10 / 10) ∷ (48 + t / 10 / 10 / 10 % 10) ∷ (48 + t / 10 / 10 % 10) ∷ (48 + t / 10 % 10) ∷ (48 + t % 10) ∷ []
+unfolding decimalOf
+five-are t low high =
+    let e : 5 ≡ digitCount t = digit-count-is t 5 (omega arith) (omega arith, omega arith, λ e. omega arith) in
+    let f : t / 10 / 10 / 10 / 10 % 10 ≡ t / 10 / 10 / 10 / 10 = omega arith in
+    let g : t / 10 / 10 / 10 / 10 < 10 = omega arith in
+    rw (← e, f, lt-ltb _ 10 g, lt-ltb (t / 10 / 10 / 10 % 10) 10 (omega arith), lt-ltb (t / 10 / 10 % 10) 10 (omega arith), lt-ltb (t / 10 % 10) 10 (omega arith), lt-ltb (t % 10) 10 (omega arith))
+
+pub five-line : (t : ℕ) → 10000 ≤ t → t < 100000
+    → joined (timeLine t ∷ []) ≡ 35 ∷ (48 + t / 10 / 10 / 10 / 10) ∷ (48 + t / 10 / 10 / 10 % 10) ∷ (48 + t / 10 / 10 % 10) ∷ (48 + t / 10 % 10) ∷ (48 + t % 10) ∷ 10 ∷ []
+unfolding joined timeLine
+five-line t low high = rw (five-are t low high)
+
+-- and of one that has four
+four-are : (t : ℕ) → 1000 ≤ t → t < 10000
+    → decimalOf t ≡ (48 + t / 10 / 10 / 10) ∷ (48 + t / 10 / 10 % 10) ∷ (48 + t / 10 % 10) ∷ (48 + t % 10) ∷ []
+unfolding decimalOf
+four-are t low high =
+    let e : 4 ≡ digitCount t = digit-count-is t 4 (omega arith) (omega arith, omega arith, λ e. omega arith) in
+    let f : t / 10 / 10 / 10 % 10 ≡ t / 10 / 10 / 10 = omega arith in
+    let g : t / 10 / 10 / 10 < 10 = omega arith in
+    rw (← e, f, lt-ltb _ 10 g, lt-ltb (t / 10 / 10 % 10) 10 (omega arith), lt-ltb (t / 10 % 10) 10 (omega arith), lt-ltb (t % 10) 10 (omega arith))
+
+pub four-line : (t : ℕ) → 1000 ≤ t → t < 10000
+    → joined (timeLine t ∷ []) ≡ 35 ∷ (48 + t / 10 / 10 / 10) ∷ (48 + t / 10 / 10 % 10) ∷ (48 + t / 10 % 10) ∷ (48 + t % 10) ∷ 10 ∷ []
+unfolding joined timeLine
+four-line t low high = rw (four-are t low high)
 
 -- ---- a loop over steps: one turn, and the end
 

@@ -18,14 +18,68 @@ ghost use Rattle.wave_write.specs.Writer.{wantedOf, flippedOf, stepOf, w
 
 // ---- lines
 
-// A part: the reader calls it too.
-pub fn put_time(out: &mut [u8], at: usize, t: usize) -> usize
+// The line of a time.
+fn put_time(out: &mut [u8], at: usize, t: usize) -> usize
     requires { ⌜ at + digitCount t + 2 ≤ length (now out) ⌝ }
     ensures { λ r. ⌜ (r, now (out .exit)) ≡ putOf (now (out .entry)) at (joined (timeLine t ∷ [])) ⌝ }
 {
     let a = put(out, at, b"#");
     let b = put_number(out, a, t);
     put(out, b, b"\n")
+}
+
+// A time of five digits, which most steps of a long history have: no loop, and no test of how many there are.
+fn put_five(out: &mut [u8], at: usize, t: usize) -> usize
+    requires { ⌜ (10000 ≤ t) × (t < 100000) × (at + 7 ≤ length (now out)) ⌝ }
+    ensures { λ r. ⌜ (r, now (out .exit)) ≡ putOf (now (out .entry)) at (joined (timeLine t ∷ [])) ⌝ }
+{
+    let a = t / 10;
+    let b = a / 10;
+    let c = b / 10;
+    let d = c / 10;
+    let text = [
+        35,
+        48 + d as u8,
+        48 + (c % 10) as u8,
+        48 + (b % 10) as u8,
+        48 + (a % 10) as u8,
+        48 + (t % 10) as u8,
+        10,
+    ];
+    put(out, at, &text)
+}
+
+// As `put_five`, a time of four digits.
+fn put_four(out: &mut [u8], at: usize, t: usize) -> usize
+    requires { ⌜ (1000 ≤ t) × (t < 10000) × (at + 6 ≤ length (now out)) ⌝ }
+    ensures { λ r. ⌜ (r, now (out .exit)) ≡ putOf (now (out .entry)) at (joined (timeLine t ∷ [])) ⌝ }
+{
+    let a = t / 10;
+    let b = a / 10;
+    let c = b / 10;
+    let text = [
+        35,
+        48 + c as u8,
+        48 + (b % 10) as u8,
+        48 + (a % 10) as u8,
+        48 + (t % 10) as u8,
+        10,
+    ];
+    put(out, at, &text)
+}
+
+// As `put_time`, of a step's number.
+fn put_step_time(out: &mut [u8], at: usize, t: usize) -> usize
+    requires { ⌜ (t < 100000) × (at + digitCount t + 2 ≤ length (now out)) ⌝ }
+    ensures { λ r. ⌜ (r, now (out .exit)) ≡ putOf (now (out .entry)) at (joined (timeLine t ∷ [])) ⌝ }
+{
+    if t < 1000 {
+        return put_time(out, at, t);
+    }
+    if t < 10000 {
+        return put_four(out, at, t);
+    }
+    put_five(out, at, t)
 }
 
 fn put_bit(out: &mut [u8], at: usize, bit: u8, cell: u8) -> usize
@@ -129,11 +183,11 @@ fn flip(n: usize, bits: &mut [u8; 94], kind: u32, cell: usize) -> bool
 }
 
 fn put_change(out: &mut [u8], at: usize, t: usize, bit: u8, cell: u8) -> usize
-    requires { ⌜ (bit ≤ 1) × (cell < 94) × (at + digitCount t + 5 ≤ length (now out)) ⌝ }
+    requires { ⌜ (bit ≤ 1) × (cell < 94) × (t < 100000) × (at + digitCount t + 5 ≤ length (now out)) ⌝ }
     ensures { λ r. ⌜ (r, now (out .exit))
         ≡ putOf (now (out .entry)) at (joined (timeLine t ∷ bitLine bit cell ∷ [])) ⌝ }
 {
-    let a = put_time(out, at, t);
+    let a = put_step_time(out, at, t);
     put_bit(out, a, bit, cell)
 }
 
@@ -157,7 +211,7 @@ fn step(
     out: &mut [u8],
     at: usize,
 ) -> usize
-    requires { ⌜ (n ≤ 94) ×
+    requires { ⌜ (n ≤ 94) × (t < 100000) ×
         (changesOf n (now bits) kind cell ≡ true → at + digitCount t + 5 ≤ length (now out)) ⌝ }
     ensures { λ r. ⌜ (r, (now (bits .exit), now (out .exit)))
         ≡ stepOf n t (now (bits .entry)) kind cell (now (out .entry)) at ⌝ }
@@ -201,23 +255,24 @@ fn put_head(out: &mut [u8], n: u8) -> usize
 
 // ---- how long
 
+// The most digits first: most steps of a long history have them.
 fn digit_count(t: usize) -> usize
     requires { ⌜ t < 100000 ⌝ }
     ensures { λ r. ⌜ r ≡ digitCount t ⌝ }
 {
-    if t < 10 {
-        return 1;
+    if 10000 <= t {
+        return 5;
     }
-    if t < 100 {
-        return 2;
-    }
-    if t < 1000 {
-        return 3;
-    }
-    if t < 10000 {
+    if 1000 <= t {
         return 4;
     }
-    5
+    if 100 <= t {
+        return 3;
+    }
+    if 10 <= t {
+        return 2;
+    }
+    1
 }
 
 fn head_size(n: usize) -> usize

@@ -1,12 +1,13 @@
 -- `crew::take_turns` meets its contract.
-use Prim.Native.Nat.{_-_, _≤_, _<_}
+use Prim.Native.Nat.{_+_, _*_, _-_, _≤_, _<_}
 use mathlib.Core.Path.{_≡_, refl, sym, ap}
 use native.Mathlib.Omega.{arith}
 use mathlib.Core.List.{[]}
 use lib.ListN.{length, getD, replicate}
 use borrow.Author.Needs.{needs}
-use Rattle.model.specs.Crew.{rests, startOf, crewStart}
+use Rattle.model.specs.Crew.{rests, movesOf, startOf, crewStart}
 use Rattle.crew.proofs.take_turns.Statement.{statement}
+use Rattle.crew.specs.Moves.{all-left}
 use Rattle.crew.specs.Places.{placed-rests, Spot, spot}
 use Rattle.laws.specs.Crew.{start-fits}
 use Rattle.crew.specs.Model.{handed, takeTurnsOf}
@@ -15,36 +16,49 @@ use Rattle.crew.specs.Rests.{Resting, rest-idle, rest-tried, rest-took, 
 use Rattle.crew.proofs.take_turns.Tie as tie
 
 abbrev Inv-loop : tie.InvT-loop
-Inv-loop head table₀ health counts cells starts turns made₀ next₀ moving₀ i₀ table made next moving i =
-    Resting (head .headers) (head .buckets) health counts cells turns (crewStart head table₀ []) next table made moving i
+Inv-loop head table₀ health counts cells starts turns left₀ next₀ moving₀ i₀ table left next moving i =
+    Resting (head .headers) (head .buckets) health counts cells turns (crewStart head table₀ []) next table left moving i
 
 abbrev μ-loop : tie.MeasureT-loop
-μ-loop head table₀ health counts cells starts turns made₀ next₀ moving₀ i₀ table made next moving i = length turns - i
+μ-loop head table₀ health counts cells starts turns left₀ next₀ moving₀ i₀ table left next moving i = length turns - i
 
--- the member whose turn it is: it is named, its list begins where `starts` says, and it wants few cells
-named : (c : tie.In-loop Inv-loop μ-loop) → let a = c .before .before .before .before .before .before .before .args in getD (a .turns .now) (c .before .loop .i) 0 < length (a .counts .now)
-named c = c .before .before .before .before .before .before .before .pre .0 .named _ (c .loop-test .taken)
+-- the member whose turn it is: it is named, one of sixteen, its list begins where `starts` says, and it wants few cells
+named : (c : tie.In-loop Inv-loop μ-loop) → let a = c .before .before .before .before .before .before .before .before .before .args in getD (a .turns .now) (c .before .loop .i) 0 < length (a .counts .now)
+named c = c .before .before .before .before .before .before .before .before .before .pre .0 .named _ (c .loop-test .taken)
+
+few : (c : tie.In-loop Inv-loop μ-loop) → getD (c .before .before .before .before .before .before .before .before .before .args .turns .now) (c .before .loop .i) 0 < 16
+few c = omega (arith, named c, c .before .before .before .before .before .before .before .before .before .pre .0 .limits .few-members)
 
 begins : (c : tie.In-loop Inv-loop μ-loop)
-    → let a = c .before .before .before .before .before .before .before .args in let m = getD (a .turns .now) (c .before .loop .i) 0 in getD (a .starts .now) m 0 ≡ startOf (a .counts .now) m
-begins c = c .before .before .before .before .before .before .before .pre .1 .begins _ (named c)
+    → let a = c .before .before .before .before .before .before .before .before .before .args in let m = getD (a .turns .now) (c .before .loop .i) 0 in getD (a .starts .now) m 0 ≡ startOf (a .counts .now) m
+begins c = c .before .before .before .before .before .before .before .before .before .pre .1 .begins _ (named c)
 
-wants-few : (c : tie.In-loop Inv-loop μ-loop) → let a = c .before .before .before .before .before .before .before .args in getD (a .counts .now) (getD (a .turns .now) (c .before .loop .i) 0) 0 ≤ 64
-wants-few c = c .before .before .before .before .before .before .before .pre .0 .limits .each-few _
+wants-few : (c : tie.In-loop Inv-loop μ-loop) → let a = c .before .before .before .before .before .before .before .before .before .args in getD (a .counts .now) (getD (a .turns .now) (c .before .loop .i) 0) 0 ≤ 64
+wants-few c = c .before .before .before .before .before .before .before .before .before .pre .0 .limits .each-few _
+
+-- what it has made and what it has left
+together : (c : tie.In-loop Inv-loop μ-loop)
+    → let a = c .before .before .before .before .before .before .before .before .before .args in let l = c .before .loop in let m = getD (a .turns .now) (l .i) 0 in
+    getD (l .inv .run .made) m 0 + getD (l .left) m 0 ≡ movesOf rests (getD (a .counts .now) m 0)
+together c = c .before .loop .inv .run .parted .together _ (few c)
 
 -- where it moves
 unfinished : (c : tie.After-place Inv-loop μ-loop)
-    → let a = c .before .before .before .before .before .before .before .before .before .before .before .before .args in let l = c .before .before .before .before .before .before .loop in
-    Unfinished rests (a .head .headers) (a .head .buckets) (a .health .now) (a .counts .now) (a .cells .now) (a .turns .now) (crewStart (a .head) (a .table .now) []) (l .next) (l .table) (l .made) (l .moving) (l .i) [] (l .inv .noted) (getD (a .starts .now) (getD (a .turns .now) (l .i) 0) 0) (c .place .result)
-unfinished c = let l = c .before .before .before .before .before .before .loop in
-    record { counted = omega (arith, named (c .before .before .before .before .before), c .before .before .before .before .before .before .before .before .before .before .before .before .pre .0 .limits .few-members, l .inv .run .made-length); begins = begins (c .before .before .before .before .before); placed = placed-rests _ _ _ _ (c .place .ensures); unfinished = omega (arith, c .before .before .if1 .left) }
+    → let a = c .before .before .before .before .before .before .before .before .before .before .before .before .before .before .args in let l = c .before .before .before .before .before .before .loop in let m = getD (a .turns .now) (l .i) 0 in
+    Unfinished rests (a .head .headers) (a .head .buckets) (a .health .now) (a .counts .now) (a .cells .now) (a .turns .now) (crewStart (a .head) (a .table .now) []) (l .next) (l .table) (l .left) (l .moving) (l .i) [] (l .inv .noted) (2 * getD (a .counts .now) m 0 - getD (l .left) m 0) (getD (a .starts .now) m 0) (c .place .result)
+unfinished c = let i = c .before .before .before .before .before in
+    record { counted = few i; so-far = omega (arith, together i); unfinished = omega (arith, c .before .before .before .if1 .left); begins = begins i; placed = placed-rests _ _ _ _ (c .place .ensures) }
 
 spot-of : (c : tie.After-place Inv-loop μ-loop)
-    → let a = c .before .before .before .before .before .before .before .before .before .before .before .before .args in Spot (a .head) (length (a .table .now)) (length (a .health .now)) (a .cells .now) (c .place .result)
-spot-of c = spot rests _ _ _ _ _ _ _ _ _ _ (c .before .before .before .before .before .before .before .before .before .before .before .before .pre .0) (named (c .before .before .before .before .before)) (begins (c .before .before .before .before .before)) (unfinished c .placed) (unfinished c .unfinished)
+    → let a = c .before .before .before .before .before .before .before .before .before .before .before .before .before .before .args in Spot (a .head) (length (a .table .now)) (length (a .health .now)) (a .cells .now) (c .place .result)
+spot-of c = let i = c .before .before .before .before .before in
+    spot rests _ _ _ _ _ _ _ _ _ _ (c .before .before .before .before .before .before .before .before .before .before .before .before .before .before .pre .0) (named i) (begins i) (unfinished c .placed) (omega (arith, unfinished c .so-far, unfinished c .unfinished))
+
+other-moves-requires : tie.Need-other-moves-requires Inv-loop μ-loop
+other-moves-requires c κs = search needs
 
 loop-holds : tie.Need-loop-holds Inv-loop μ-loop
-loop-holds c = record { noted = replicate 16 0; run = record { serials = replicate 256 0; place = search needs; few = search needs; words = refl; made-length = refl; rest = refl } }
+loop-holds c = record { noted = replicate 16 0; run = record { made = replicate 16 0; serials = replicate 256 0; place = search needs; few = search needs; words = refl; parted = all-left rests _ _ (c .other-moves .ensures); rest = refl } }
 
 mul-m : tie.Need-mul-m Inv-loop μ-loop
 mul-m c = search needs
@@ -53,46 +67,47 @@ shared-slice-read-m : tie.Need-shared-slice-read-m Inv-loop μ-loop
 shared-slice-read-m c = search needs
 
 cast-m : tie.Need-cast-m Inv-loop μ-loop
-cast-m c = omega (arith, named (c .before), c .before .before .before .before .before .before .before .before .pre .0 .limits .few-members)
+cast-m c = omega (arith, few (c .before))
 
 add-i : tie.Need-add-i Inv-loop μ-loop
 add-i c = search needs
 
-mul-n : tie.Need-mul-n Inv-loop μ-loop
-mul-n c = omega (arith, named (c .before), c .before .before .before .before .before .before .before .before .pre .0 .limits .few-members)
+mul-more : tie.Need-mul-more Inv-loop μ-loop
+mul-more c = omega (arith, few (c .before))
 
-array-read-n : tie.Need-array-read-n Inv-loop μ-loop
-array-read-n c = omega (arith, named (c .before), c .before .before .before .before .before .before .before .before .pre .0 .limits .few-members, c .before .before .loop .inv .run .made-length)
-
-mul-count : tie.Need-mul-count Inv-loop μ-loop
-mul-count c = omega (arith, named (c .before))
-
-shared-slice-read-count : tie.Need-shared-slice-read-count Inv-loop μ-loop
-shared-slice-read-count c = named (c .before .before)
-
-cast-count : tie.Need-cast-count Inv-loop μ-loop
-cast-count c = omega (arith, wants-few (c .before .before))
-
-mul-if1 : tie.Need-mul-if1 Inv-loop μ-loop
-mul-if1 c = omega (arith, wants-few (c .before .before))
+array-read-more : tie.Need-array-read-more Inv-loop μ-loop
+array-read-more c = few (c .before)
 
 loop-less : tie.Need-loop-less Inv-loop μ-loop
 loop-less c = search needs
 
 loop-again : tie.Need-loop-again Inv-loop μ-loop
-loop-again c = rest-idle _ _ _ _ _ _ _ _ _ _ _ _ (c .before .before .before .before .loop .inv) (c .before .before .before .loop-test .taken) (c .if1 .taken)
+loop-again c = rest-idle _ _ _ _ _ _ _ _ _ _ _ _ (c .before .before .before .loop .inv) (c .before .before .loop-test .taken) (few (c .before .before)) (c .if1 .taken)
+
+mul-count : tie.Need-mul-count Inv-loop μ-loop
+mul-count c = omega (arith, named (c .before .before))
+
+shared-slice-read-count : tie.Need-shared-slice-read-count Inv-loop μ-loop
+shared-slice-read-count c = named (c .before .before .before)
+
+cast-count : tie.Need-cast-count Inv-loop μ-loop
+cast-count c = omega (arith, wants-few (c .before .before .before))
+
+mul-n : tie.Need-mul-n Inv-loop μ-loop
+mul-n c = omega (arith, wants-few (c .before .before .before))
+
+sub-n : tie.Need-sub-n Inv-loop μ-loop
+sub-n c = omega (arith, together (c .before .before .before))
 
 mul-place : tie.Need-mul-place Inv-loop μ-loop
-mul-place c = omega (arith, named (c .before .before .before), c .before .before .before .before .before .before .before .before .before .before .pre .0 .limits .few-members)
+mul-place c = omega (arith, few (c .before .before .before))
 
 element-copy-out-place : tie.Need-element-copy-out-place Inv-loop μ-loop
-element-copy-out-place c = omega (arith, named (c .before .before .before), c .before .before .before .before .before .before .before .before .before .before .pre .0 .limits .few-members)
+element-copy-out-place c = omega (arith, few (c .before .before .before))
 
 place-requires : tie.Need-place-requires Inv-loop μ-loop
-place-requires c κs = (omega (arith, begins (c .before .before .before .before), start-fits (c .before .before .before .before .before .before .before .before .before .before .before .args .counts .now) (getD (c .before .before .before .before .before .before .before .before .before .before .before .args .turns .now) (c .before .before .before .before .before .loop .i) 0), c .before .before .before .before .before .before .before .before .before .before .before .pre .0 .limits .few-cells), c .before .if1 .left)
-
-add-once-more : tie.Need-add-once-more Inv-loop μ-loop
-add-once-more c = omega (arith, wants-few (c .before .before .before .before .before), c .before .before .if1 .left)
+place-requires c κs = let a = c .before .before .before .before .before .before .before .before .before .before .before .before .before .args in let m = getD (a .turns .now) (c .before .before .before .before .before .loop .i) 0 in
+    (omega (arith, begins (c .before .before .before .before), start-fits (a .counts .now) m, c .before .before .before .before .before .before .before .before .before .before .before .before .before .pre .0 .limits .few-cells), omega (arith, together (c .before .before .before .before), c .before .before .if1 .left))
 
 mul-make-move : tie.Need-mul-make-move Inv-loop μ-loop
 mul-make-move c = omega (arith, spot-of (c .before) .in-run)
@@ -101,7 +116,8 @@ shared-slice-read-make-move : tie.Need-shared-slice-read-make-move Inv-loop μ-l
 shared-slice-read-make-move c = spot-of (c .before .before) .in-run
 
 make-move-requires : tie.Need-make-move-requires Inv-loop μ-loop
-make-move-requires c κs = (omega (arith, spot-of (c .before .before) .cell-fits, c .before .before .before .before .before .before .before .before .loop .inv .run .words), (c .before .before .before .before .before .before .before .before .before .before .before .before .before .before .pre .0 .shape .some-buckets, spot-of (c .before .before) .header-fits))
+make-move-requires c κs = let s = spot-of (c .before .before) in
+    (omega (arith, s .cell-fits, c .before .before .before .before .before .before .before .before .loop .inv .run .words), (c .before .before .before .before .before .before .before .before .before .before .before .before .before .before .before .before .pre .0 .shape .some-buckets, s .header-fits))
 
 enum-told : tie.Need-enum-told Inv-loop μ-loop
 enum-told c = search needs
@@ -110,16 +126,19 @@ loop-less-2 : tie.Need-loop-less-2 Inv-loop μ-loop
 loop-less-2 c = search needs
 
 loop-again-2 : tie.Need-loop-again-2 Inv-loop μ-loop
-loop-again-2 c = rest-tried _ _ _ _ _ _ _ _ _ _ _ _ (c .before .before .before .before .before .before .before .before .before .before .before .before .before .loop .inv) (c .before .before .before .before .before .before .before .before .before .before .before .before .loop-test .taken) _ _ (unfinished (c .before .before .before .before .before .before .before)) _ _ (c .before .before .before .before .make-move .ensures) (search needs) (c .enum-told .given .1)
+loop-again-2 c = rest-tried _ _ _ _ _ _ _ _ _ _ _ _ (c .before .before .before .before .before .before .before .before .before .before .before .before .before .loop .inv) (c .before .before .before .before .before .before .before .before .before .before .before .before .loop-test .taken) _ _ _ (unfinished (c .before .before .before .before .before .before .before)) _ _ (c .before .before .before .before .make-move .ensures) (search needs) (c .enum-told .given .1)
 
 enum-known-after : tie.Need-enum-known-after Inv-loop μ-loop
 enum-known-after c = search needs
 
-mul-made : tie.Need-mul-made Inv-loop μ-loop
-mul-made c = omega (arith, named (c .before .before .before .before .before .before .before .before .before .before .before .before .before), c .before .before .before .before .before .before .before .before .before .before .before .before .before .before .before .before .before .before .before .before .pre .0 .limits .few-members)
+sub-left : tie.Need-sub-left Inv-loop μ-loop
+sub-left c = unfinished (c .before .before .before .before .before .before .before .before) .unfinished
 
-array-write-made : tie.Need-array-write-made Inv-loop μ-loop
-array-write-made c = omega (arith, named (c .before .before .before .before .before .before .before .before .before .before .before .before .before), c .before .before .before .before .before .before .before .before .before .before .before .before .before .before .before .before .before .before .before .before .pre .0 .limits .few-members, c .before .before .before .before .before .before .before .before .before .before .before .before .before .before .loop .inv .run .made-length)
+mul-left : tie.Need-mul-left Inv-loop μ-loop
+mul-left c = omega (arith, few (c .before .before .before .before .before .before .before .before .before .before .before .before .before))
+
+array-write-left : tie.Need-array-write-left Inv-loop μ-loop
+array-write-left c = few (c .before .before .before .before .before .before .before .before .before .before .before .before .before)
 
 add-moving : tie.Need-add-moving Inv-loop μ-loop
 add-moving c = omega (arith, c .before .before .before .before .before .before .before .before .before .before .before .before .before .before .loop .inv .run .few)
@@ -128,16 +147,19 @@ loop-less-3 : tie.Need-loop-less-3 Inv-loop μ-loop
 loop-less-3 c = search needs
 
 loop-again-3 : tie.Need-loop-again-3 Inv-loop μ-loop
-loop-again-3 c = rest-took _ _ _ _ _ _ _ _ _ _ _ _ (c .before .before .before .before .before .before .before .before .before .before .before .before .before .before .loop .inv) (c .before .before .before .before .before .before .before .before .before .before .before .before .before .loop-test .taken) _ _ (unfinished (c .before .before .before .before .before .before .before .before)) _ _ (c .before .before .before .before .before .make-move .ensures) (search needs) _ _ (c .before .after .given .1)
+loop-again-3 c = rest-took _ _ _ _ _ _ _ _ _ _ _ _ (c .before .before .before .before .before .before .before .before .before .before .before .before .before .before .loop .inv) (c .before .before .before .before .before .before .before .before .before .before .before .before .before .loop-test .taken) _ _ _ (unfinished (c .before .before .before .before .before .before .before .before)) _ _ (c .before .before .before .before .before .make-move .ensures) (search needs) _ _ (c .before .after .given .1)
 
 enum-told-2 : tie.Need-enum-told-2 Inv-loop μ-loop
 enum-told-2 c = search needs
 
-mul-made-2 : tie.Need-mul-made-2 Inv-loop μ-loop
-mul-made-2 c = omega (arith, named (c .before .before .before .before .before .before .before .before .before .before .before .before), c .before .before .before .before .before .before .before .before .before .before .before .before .before .before .before .before .before .before .before .pre .0 .limits .few-members)
+sub-left-2 : tie.Need-sub-left-2 Inv-loop μ-loop
+sub-left-2 c = unfinished (c .before .before .before .before .before .before .before) .unfinished
 
-array-write-made-2 : tie.Need-array-write-made-2 Inv-loop μ-loop
-array-write-made-2 c = omega (arith, named (c .before .before .before .before .before .before .before .before .before .before .before .before), c .before .before .before .before .before .before .before .before .before .before .before .before .before .before .before .before .before .before .before .pre .0 .limits .few-members, c .before .before .before .before .before .before .before .before .before .before .before .before .before .loop .inv .run .made-length)
+mul-left-2 : tie.Need-mul-left-2 Inv-loop μ-loop
+mul-left-2 c = omega (arith, few (c .before .before .before .before .before .before .before .before .before .before .before .before))
+
+array-write-left-2 : tie.Need-array-write-left-2 Inv-loop μ-loop
+array-write-left-2 c = few (c .before .before .before .before .before .before .before .before .before .before .before .before)
 
 add-moving-2 : tie.Need-add-moving-2 Inv-loop μ-loop
 add-moving-2 c = omega (arith, c .before .before .before .before .before .before .before .before .before .before .before .before .before .loop .inv .run .few)
@@ -146,17 +168,20 @@ loop-less-4 : tie.Need-loop-less-4 Inv-loop μ-loop
 loop-less-4 c = search needs
 
 loop-again-4 : tie.Need-loop-again-4 Inv-loop μ-loop
-loop-again-4 c = rest-moved _ _ _ _ _ _ _ _ _ _ _ _ (c .before .before .before .before .before .before .before .before .before .before .before .before .before .loop .inv) (c .before .before .before .before .before .before .before .before .before .before .before .before .loop-test .taken) _ _ (unfinished (c .before .before .before .before .before .before .before)) _ _ (c .before .before .before .before .make-move .ensures) (search needs) (c .enum-told2 .given .1)
+loop-again-4 c = rest-moved _ _ _ _ _ _ _ _ _ _ _ _ (c .before .before .before .before .before .before .before .before .before .before .before .before .before .loop .inv) (c .before .before .before .before .before .before .before .before .before .before .before .before .loop-test .taken) _ _ _ (unfinished (c .before .before .before .before .before .before .before)) _ _ (c .before .before .before .before .make-move .ensures) (search needs) (c .enum-told2 .given .1)
 
 sub-idle : tie.Need-sub-idle Inv-loop μ-loop
 sub-idle c = search needs
+
+other-moves-requires-2 : tie.Need-other-moves-requires-2 Inv-loop μ-loop
+other-moves-requires-2 c κs = search needs
 
 same-length : tie.Need-same-length Inv-loop μ-loop
 same-length c = search needs
 
 returns : tie.Need-returns Inv-loop μ-loop
 unfolding takeTurnsOf
-returns c = sym (ap handed (work-done _ _ _ _ _ _ _ _ _ _ _ _ _ _ _ (c .before .loop .inv .run) (c .loop-test .left)))
+returns c = sym (ap handed (work-done _ _ _ _ _ _ _ _ _ _ _ _ _ _ _ (c .before .before .before .loop .inv .run) (c .before .before .loop-test .left) _ (c .other-moves2 .ensures)))
 
 pub take-turns-spec : {M : Type 1} → statement M
 take-turns-spec =
@@ -164,23 +189,24 @@ take-turns-spec =
     (tie.spec
     Inv-loop
     μ-loop
+    other-moves-requires
     loop-holds
     mul-m
     shared-slice-read-m
     cast-m
     add-i
-    mul-n
-    array-read-n
+    mul-more
+    array-read-more
+    loop-less
+    loop-again
     mul-count
     shared-slice-read-count
     cast-count
-    mul-if1
-    loop-less
-    loop-again
+    mul-n
+    sub-n
     mul-place
     element-copy-out-place
     place-requires
-    add-once-more
     mul-make-move
     shared-slice-read-make-move
     make-move-requires
@@ -188,17 +214,20 @@ take-turns-spec =
     loop-less-2
     loop-again-2
     enum-known-after
-    mul-made
-    array-write-made
+    sub-left
+    mul-left
+    array-write-left
     add-moving
     loop-less-3
     loop-again-3
     enum-told-2
-    mul-made-2
-    array-write-made-2
+    sub-left-2
+    mul-left-2
+    array-write-left-2
     add-moving-2
     loop-less-4
     loop-again-4
     sub-idle
+    other-moves-requires-2
     same-length
     returns)

@@ -18,7 +18,7 @@ enum-told c = search needs
 names-fault-requires : tie.Need-names-fault-requires
 names-fault-requires c κs = let a = c .before .before .before .before .before .before .args in
     let k = limits-fine (a .counts .now) (a .cells .now) (a .turns .now) (sym (c .before .before .limits-fault .ensures) ∙ c .enum-told .given .1) in
-    (k .few-members, k .cells-are)
+    (k .some-members, (k .few-members, k .cells-are))
 
 returns : tie.Need-returns
 returns c = let a = c .before .before .before .before .before .before .before .args in

@@ -1,65 +1,36 @@
 -- `crew_plan::turns_fault` meets its contract.
-use Prim.Native.Nat.{_≤_, _-_}
-use mathlib.Core.Path.{_≡_, refl}
-use native.Mathlib.Omega.{arith}
-use lib.ListN.{length, drop}
+use mathlib.Core.Path.{sym, _∙_}
 use borrow.Author.Needs.{needs}
-use borrow.Author.Tests.{le-leb, lt-leb}
-use Rattle.model.specs.Crew.{badTurns}
-use Rattle.model.specs.Refusals.{first}
 use Rattle.crew_plan.proofs.turns_fault.Statement.{statement}
-use Rattle.crew_plan.specs.Lists.{turns-at, turns-end}
+use Rattle.crew_plan.specs.Lists.{turns-within}
 use Rattle.crew_plan.proofs.turns_fault.Tie as tie
 
-abbrev Inv-loop : tie.InvT-loop
-Inv-loop members turns i₀ i =
-    (i ≤ length turns) × (first (badTurns members i (drop i turns)) ≡ first (badTurns members 0 turns))
+sub-all-within : tie.Need-sub-all-within
+sub-all-within c = search needs
 
-abbrev μ-loop : tie.MeasureT-loop
-μ-loop members turns i₀ i = length turns - i
+cast-all-within : tie.Need-cast-all-within
+cast-all-within c = search needs
 
-loop-holds : tie.Need-loop-holds Inv-loop μ-loop
-loop-holds c = (search needs, refl)
+all-within-requires : tie.Need-all-within-requires
+all-within-requires c κs = search needs
 
-mul-if1 : tie.Need-mul-if1 Inv-loop μ-loop
-mul-if1 c = search needs
+returns : tie.Need-returns
+returns c = let a = c .before .before .before .args in
+    sym (turns-within (a .members) 0 (a .turns .now) (c .before .before .before .pre .0) (sym (c .before .all-within .ensures) ∙ c .if1 .taken))
 
-shared-slice-read-if1 : tie.Need-shared-slice-read-if1 Inv-loop μ-loop
-shared-slice-read-if1 c = search needs
+first-stray-requires : tie.Need-first-stray-requires
+first-stray-requires c κs = search needs
 
-cast-if1 : tie.Need-cast-if1 Inv-loop μ-loop
-cast-if1 c = omega (arith, c .shared-slice-known .given (c .before .before .loop .i))
-
-returns : tie.Need-returns Inv-loop μ-loop
-returns c = let l = c .before .before .before .loop in let a = c .before .before .before .before .args in
-    rw (← l .inv .1, turns-at (a .members) (l .i) (a .turns .now) (search needs), le-leb _ _ (c .if1 .taken))
-
-add-i : tie.Need-add-i Inv-loop μ-loop
-add-i c = search needs
-
-loop-less : tie.Need-loop-less Inv-loop μ-loop
-loop-less c = search needs
-
-loop-again : tie.Need-loop-again Inv-loop μ-loop
-loop-again c = let l = c .before .before .before .loop in let a = c .before .before .before .before .args in
-    (search needs, rw (← l .inv .1, turns-at (a .members) (l .i) (a .turns .now) (search needs), lt-leb _ _ (c .if1 .left)))
-
-returns-2 : tie.Need-returns-2 Inv-loop μ-loop
-returns-2 c = let l = c .before .loop in let a = c .before .before .args in
-    rw (← l .inv .1, turns-end (a .members) (l .i) (a .turns .now) (search needs))
+returns-2 : tie.Need-returns-2
+returns-2 c = search needs
 
 pub turns-fault-spec : {M : Type 1} → statement M
 turns-fault-spec =
     tie.close
     (tie.spec
-    Inv-loop
-    μ-loop
-    loop-holds
-    mul-if1
-    shared-slice-read-if1
-    cast-if1
+    sub-all-within
+    cast-all-within
+    all-within-requires
     returns
-    add-i
-    loop-less
-    loop-again
+    first-stray-requires
     returns-2)

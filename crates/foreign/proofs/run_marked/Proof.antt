@@ -19,11 +19,14 @@ abbrev μ-loop : tie.MeasureT-loop
 μ-loop headers cells start place before table₀ health₀ script steps held taken n own marks next₀ p₀ dropped₀ table health next p dropped =
     steps - p
 
-marks-of-requires : tie.Need-marks-of-requires Inv-loop μ-loop
-marks-of-requires c κs = search needs
+filling-requires : tie.Need-filling-requires Inv-loop μ-loop
+filling-requires c κs = search needs
+
+note-marks-requires : tie.Need-note-marks-requires Inv-loop μ-loop
+note-marks-requires c κs = rw (← c .before .filling .ensures)
 
 loop-holds : tie.Need-loop-holds Inv-loop μ-loop
-loop-holds c = record { flow-bound = c .before .before .before .before .before .pre .1; words = refl; bytes = refl; rest = refl }
+loop-holds c = record { flow-bound = c .before .before .before .before .before .before .before .pre .1; words = refl; bytes = refl; rest = refl }
 
 mul-at : tie.Need-mul-at Inv-loop μ-loop
 mul-at c = search needs
@@ -34,8 +37,8 @@ mul-kind c = search needs
 shared-slice-read-kind : tie.Need-shared-slice-read-kind Inv-loop μ-loop
 shared-slice-read-kind c = search needs
 
-add-t26 : tie.Need-add-t26 Inv-loop μ-loop
-add-t26 c = search needs
+add-t30 : tie.Need-add-t30 Inv-loop μ-loop
+add-t30 c = search needs
 
 same-length : tie.Need-same-length Inv-loop μ-loop
 same-length c = search needs
@@ -44,7 +47,7 @@ same-length-2 : tie.Need-same-length-2 Inv-loop μ-loop
 same-length-2 c = search needs
 
 returns : tie.Need-returns Inv-loop μ-loop
-returns c = let l = c .before .before .before .loop in let a = c .before .before .before .before .before .before .before .before .before .args in
+returns c = let l = c .before .before .before .loop in let a = c .before .before .before .before .before .before .before .before .before .before .before .args in
     let e = setting (a .headers) (a .cells) (a .script .now) (guardsOf (a .held .now) (a .taken .now) (a .n) ++ (a .own ∷ [])) in
     rw (← l .inv .rest, steps-at e (flowOf (l .next) (l .p) (l .dropped)) (l .table) (l .health) (a .steps) (search needs), eq-eqb _ _ (c .if1 .taken))
 
@@ -67,7 +70,7 @@ shared-slice-read-step-2 : tie.Need-shared-slice-read-step-2 Inv-loop μ-loop
 shared-slice-read-step-2 c = search needs
 
 step-requires : tie.Need-step-requires Inv-loop μ-loop
-step-requires c κs = (search needs, (search needs, (search needs, (search needs, c .before .before .before .before .before .before .before .before .before .marks-of .ensures))))
+step-requires c κs = (search needs, (search needs, (search needs, (search needs, c .before .before .before .before .before .before .before .before .before .note-marks .ensures))))
 
 add-dropped : tie.Need-add-dropped Inv-loop μ-loop
 add-dropped c = let d = step-drops _ _ _ _ _ _ _ _ (c .before .before .before .before .before .step .ensures) in omega arith
@@ -79,7 +82,7 @@ loop-less : tie.Need-loop-less Inv-loop μ-loop
 loop-less c = search needs
 
 loop-again : tie.Need-loop-again Inv-loop μ-loop
-loop-again c = let l = c .before .before .before .before .before .before .before .before .before .before .before .before .before .before .loop in let a = c .before .before .before .before .before .before .before .before .before .before .before .before .before .before .before .before .before .before .before .before .args in
+loop-again c = let l = c .before .before .before .before .before .before .before .before .before .before .before .before .before .before .loop in let a = c .before .before .before .before .before .before .before .before .before .before .before .before .before .before .before .before .before .before .before .before .before .before .args in
     let e = setting (a .headers) (a .cells) (a .script .now) (guardsOf (a .held .now) (a .taken .now) (a .n) ++ (a .own ∷ [])) in
     let d = step-drops _ _ _ _ _ _ _ _ (c .before .before .before .before .before .step .ensures) in
     record {
@@ -97,7 +100,7 @@ same-length-4 : tie.Need-same-length-4 Inv-loop μ-loop
 same-length-4 c = search needs
 
 returns-2 : tie.Need-returns-2 Inv-loop μ-loop
-returns-2 c = let l = c .before .loop in let a = c .before .before .before .before .before .before .before .args in
+returns-2 c = let l = c .before .loop in let a = c .before .before .before .before .before .before .before .before .before .args in
     let e = setting (a .headers) (a .cells) (a .script .now) (guardsOf (a .held .now) (a .taken .now) (a .n) ++ (a .own ∷ [])) in
     rw (← l .inv .rest, steps-end e (flowOf (l .next) (l .p) (l .dropped)) (l .table) (l .health) (a .steps) (search needs))
 
@@ -107,12 +110,13 @@ run-marked-spec =
     (tie.spec
     Inv-loop
     μ-loop
-    marks-of-requires
+    filling-requires
+    note-marks-requires
     loop-holds
     mul-at
     mul-kind
     shared-slice-read-kind
-    add-t26
+    add-t30
     same-length
     same-length-2
     returns

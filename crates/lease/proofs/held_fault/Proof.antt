@@ -1,24 +1,17 @@
 -- `lease::held_fault` meets its contract.
 use borrow.Author.Needs.{needs}
-use borrow.Author.Tests.{le-ltb, lt-ltb, eq-eqb, ne-eqb}
-use Rattle.model.specs.Refusals.{first}
+use Rattle.lease.specs.Model.{none-held}
 use Rattle.lease.proofs.held_fault.Statement.{statement}
 use Rattle.lease.proofs.held_fault.Tie as tie
 
 returns : tie.Need-returns
-unfolding first
-returns c = rw (ne-eqb _ _ (c .if1 .taken))
+returns c = let a = c .before .before .before .args in none-held (a .head) (a .table .now) (a .held .now) (c .if1 .taken)
+
+listed-fault-requires : tie.Need-listed-fault-requires
+listed-fault-requires c κs = search needs
 
 returns-2 : tie.Need-returns-2
-unfolding first
-returns-2 c = rw (eq-eqb _ _ (c .before .if1 .left), lt-ltb _ _ (c .if2 .taken))
-
-live-fault-requires : tie.Need-live-fault-requires
-live-fault-requires c κs = search needs
-
-returns-3 : tie.Need-returns-3
-unfolding first
-returns-3 c = rw (eq-eqb _ _ (c .before .before .if1 .left), le-ltb _ _ (c .before .if2 .left), ← c .live-fault .ensures)
+returns-2 c = c .listed-fault .ensures
 
 pub held-fault-spec : {M : Type 1} → statement M
-held-fault-spec = tie.close (tie.spec returns returns-2 live-fault-requires returns-3)
+held-fault-spec = tie.close (tie.spec returns listed-fault-requires returns-2)

@@ -1,6 +1,7 @@
 -- `lease::live_fault` meets its contract.
-use Prim.Native.Nat.{_≤_, _*_, _-_, _/_}
+use Prim.Native.Nat.{_≤_, _+_, _*_, _-_, _/_}
 use mathlib.Core.Path.{_≡_, refl}
+use native.Mathlib.Omega.{arith}
 use lib.ListN.{length, drop}
 use borrow.Author.Needs.{needs}
 use Rattle.model.specs.Arena.{leasesOf}
@@ -11,16 +12,19 @@ use Rattle.lease.proofs.live_fault.Statement.{statement}
 use Rattle.lease.proofs.live_fault.Tie as tie
 
 abbrev Inv-loop : tie.InvT-loop
-Inv-loop head table held i₀ i = (i ≤ length held / 3) × (first (notLive head table i (leasesOf (drop (3 * i) held))) ≡ first (notLive head table 0 (leasesOf held)))
+Inv-loop head table held at₀ at = (at ≤ length held + 2) × ((at ≡ 3 * (at / 3)) × (first (notLive head table (at / 3) (leasesOf (drop (3 * (at / 3)) held))) ≡ first (notLive head table 0 (leasesOf held))))
 
 abbrev μ-loop : tie.MeasureT-loop
-μ-loop head table held i₀ i = length held / 3 - i
+μ-loop head table held at₀ at = length held + 3 - at
 
 loop-holds : tie.Need-loop-holds Inv-loop μ-loop
-loop-holds c = (search needs, refl)
+loop-holds c = (omega arith, (refl, refl))
 
-lease-in-requires : tie.Need-lease-in-requires Inv-loop μ-loop
-lease-in-requires c κs = search needs
+add-loop : tie.Need-add-loop Inv-loop μ-loop
+add-loop c = omega (arith, c .loop .inv .0, c .before .before .before .good .1 .1 .0)
+
+lease-from-requires : tie.Need-lease-from-requires Inv-loop μ-loop
+lease-from-requires c κs = search needs
 
 is-stale-requires : tie.Need-is-stale-requires Inv-loop μ-loop
 is-stale-requires c κs = search needs
@@ -29,13 +33,13 @@ returns : tie.Need-returns Inv-loop μ-loop
 returns c =
     let l = c .before .before .before .before .loop in
     let a = c .before .before .before .before .before .before .before .args in
-    rw (← l .inv .1, not-live-at (a .head) (a .table .now) (a .held .now) (l .i) _ (c .before .before .lease-in .ensures) (search needs), ← c .before .is-stale .ensures, c .if1 .taken)
+    rw (← l .inv .1 .1, not-live-at (a .head) (a .table .now) (a .held .now) (l .at / 3) _ (c .before .before .lease-from .ensures) (omega (arith, l .inv .1 .0, c .before .before .before .loop-test .taken)), ← c .before .is-stale .ensures, c .if1 .taken)
 
 is-live-requires : tie.Need-is-live-requires Inv-loop μ-loop
 is-live-requires c κs = search needs
 
-add-i : tie.Need-add-i Inv-loop μ-loop
-add-i c = search needs
+add-at : tie.Need-add-at Inv-loop μ-loop
+add-at c = search needs
 
 loop-less : tie.Need-loop-less Inv-loop μ-loop
 loop-less c = search needs
@@ -44,17 +48,20 @@ loop-again : tie.Need-loop-again Inv-loop μ-loop
 loop-again c =
     let l = c .before .before .before .before .before .before .loop in
     let a = c .before .before .before .before .before .before .before .before .before .args in
-    (search needs, rw (← l .inv .1, not-live-at (a .head) (a .table .now) (a .held .now) (l .i) _ (c .before .before .before .before .lease-in .ensures) (search needs), ← c .before .before .before .is-stale .ensures, c .before .before .if1 .left, ← c .before .is-live .ensures, c .if2 .taken))
+    let e : (l .at + 3) / 3 ≡ l .at / 3 + 1 = omega arith in
+    (omega (arith, c .before .before .before .before .before .loop-test .taken), (omega (arith, l .inv .1 .0), rw (e, ← l .inv .1 .1, not-live-at (a .head) (a .table .now) (a .held .now) (l .at / 3) _ (c .before .before .before .before .lease-from .ensures) (omega (arith, l .inv .1 .0, c .before .before .before .before .before .loop-test .taken)), ← c .before .before .before .is-stale .ensures, c .before .before .if1 .left, ← c .before .is-live .ensures, c .if2 .taken)))
 
 returns-2 : tie.Need-returns-2 Inv-loop μ-loop
 returns-2 c =
     let l = c .before .before .before .before .before .before .loop in
     let a = c .before .before .before .before .before .before .before .before .before .args in
-    rw (← l .inv .1, not-live-at (a .head) (a .table .now) (a .held .now) (l .i) _ (c .before .before .before .before .lease-in .ensures) (search needs), ← c .before .before .before .is-stale .ensures, c .before .before .if1 .left, ← c .before .is-live .ensures, c .if2 .left)
+    rw (← l .inv .1 .1, not-live-at (a .head) (a .table .now) (a .held .now) (l .at / 3) _ (c .before .before .before .before .lease-from .ensures) (omega (arith, l .inv .1 .0, c .before .before .before .before .before .loop-test .taken)), ← c .before .before .before .is-stale .ensures, c .before .before .if1 .left, ← c .before .is-live .ensures, c .if2 .left)
 
 returns-3 : tie.Need-returns-3 Inv-loop μ-loop
-returns-3 c = let l = c .before .loop in let a = c .before .before .before .before .args in
-    rw (← l .inv .1, not-live-end (a .head) (a .table .now) (a .held .now) (l .i) (search needs))
+returns-3 c =
+    let l = c .before .loop in
+    let a = c .before .before .before .before .args in
+    rw (← l .inv .1 .1, not-live-end (a .head) (a .table .now) (a .held .now) (l .at / 3) (omega (arith, l .inv .1 .0, c .loop-test .left)))
 
 pub live-fault-spec : {M : Type 1} → statement M
 live-fault-spec =
@@ -63,11 +70,12 @@ live-fault-spec =
     Inv-loop
     μ-loop
     loop-holds
-    lease-in-requires
+    add-loop
+    lease-from-requires
     is-stale-requires
     returns
     is-live-requires
-    add-i
+    add-at
     loop-less
     loop-again
     returns-2

@@ -20,12 +20,6 @@ loop-holds c = let a = c .before .args in (search needs, search needs, search ne
 tally-in-requires : tie.Need-tally-in-requires Inv-loop μ-loop
 tally-in-requires c κs = search needs
 
-add-changes : tie.Need-add-changes Inv-loop μ-loop
-add-changes c = let one = tally-parts _ _ _ _ (c .before .tally-in .ensures) in omega (arith, one .2, c .before .before .before .loop .inv .1)
-
-add-left : tie.Need-add-left Inv-loop μ-loop
-add-left c = let one = tally-parts _ _ _ _ (c .before .before .tally-in .ensures) in omega (arith, one .3, c .before .before .before .before .loop .inv .2)
-
 add-cell : tie.Need-add-cell Inv-loop μ-loop
 add-cell c = search needs
 
@@ -34,10 +28,10 @@ loop-less c = search needs
 
 loop-again : tie.Need-loop-again Inv-loop μ-loop
 loop-again c =
-    let l = c .before .before .before .before .loop in
-    let a = c .before .before .before .before .before .before .args in
-    let one = tally-parts _ _ _ _ (c .before .before .tally-in .ensures) in
-    (search needs, omega (arith, one .2, l .inv .1), omega (arith, one .3, l .inv .2), omega (arith, count-turn (a .next) (a .table .now) (l .cell) (search needs), one .0, l .inv .3), omega (arith, held-turn-length (a .next) (a .table .now) (a .cells) (l .cell) (search needs), one .1, l .inv .4))
+    let l = c .before .before .loop in
+    let a = c .before .before .before .before .args in
+    let sums = tally-parts _ _ _ _ _ _ (c .tally-in .ensures) in
+    (search needs, omega (arith, sums .2, l .inv .1), omega (arith, sums .3, l .inv .2), omega (arith, count-turn (a .next) (a .table .now) (l .cell) (search needs), sums .0, l .inv .3), omega (arith, held-turn-length (a .next) (a .table .now) (a .cells) (l .cell) (search needs), sums .1, l .inv .4))
 
 returns : tie.Need-returns Inv-loop μ-loop
 returns c =
@@ -53,8 +47,6 @@ count-cells-spec =
     μ-loop
     loop-holds
     tally-in-requires
-    add-changes
-    add-left
     add-cell
     loop-less
     loop-again

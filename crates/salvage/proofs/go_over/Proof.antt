@@ -40,7 +40,7 @@ mend-requires : tie.Need-mend-requires
 mend-requires c κs =
     let a = c .before .before .before .before .before .before .before .before .before .before .before .before .before .args in
     let p = c .before .before .before .before .before .before .before .before .before .before .before .before .before .pre in
-    (p .0, p .1, entries-room (a .head) (a .table .now) (a .health .now) _ _ (tally-changes _ _ _ _ (c .before .before .before .before .before .before .count-all .ensures)) (c .before .before .before .before .before .if1 .left), rw (← tally-left _ _ _ _ (c .before .before .before .before .before .before .count-all .ensures)) (c .before .before .before .before .if2 .left))
+    (p .0, p .1, entries-room (a .head) (a .table .now) (a .health .now) _ _ (tally-changes _ _ _ _ (c .before .before .before .before .before .before .count-all .ensures)) (c .before .before .before .before .before .if1 .left), rw (← tally-left _ _ _ _ (c .before .before .before .before .before .before .count-all .ensures)) (c .before .before .before .before .if2 .left), tally-changes _ _ _ _ (c .before .before .before .before .before .before .count-all .ensures), tally-left _ _ _ _ (c .before .before .before .before .before .before .count-all .ensures))
 
 conclude-requires-3 : tie.Need-conclude-requires-3
 conclude-requires-3 c κs = search needs

@@ -33,7 +33,7 @@ enum-known-stage : tie.Need-enum-known-stage
 enum-known-stage c = search needs
 
 after-variable-requires : tie.Need-after-variable-requires
-after-variable-requires c κs = rw (c .before .stage .given .1) at (c .before .before .before .before .pre)
+after-variable-requires c κs = rw (c .before .stage .given .1) at (c .before .before .before .before .pre .0)
 
 enum-known-stage-2 : tie.Need-enum-known-stage-2
 enum-known-stage-2 c = search needs
@@ -63,25 +63,16 @@ enum-known-stage-4 : tie.Need-enum-known-stage-4
 enum-known-stage-4 c = search needs
 
 after-value-requires : tie.Need-after-value-requires
-after-value-requires c κs = let r = rw (c .before .stage4 .given .1) at (c .before .before .before .before .pre) in (r .1, r .0)
-
-enum-known-stage-5 : tie.Need-enum-known-stage-5
-enum-known-stage-5 c = search needs
-
-after-time-requires : tie.Need-after-time-requires
-after-time-requires c κs = search needs
-
-enum-known-stage-6 : tie.Need-enum-known-stage-6
-enum-known-stage-6 c = search needs
-
-is-change-requires : tie.Need-is-change-requires
-is-change-requires c κs = (rw (c .before .stage6 .given .1) at (c .before .before .before .before .pre)) .1
-
-fixed-requires-5 : tie.Need-fixed-requires-5
-fixed-requires-5 c κs = search needs
+after-value-requires c κs = let r = rw (c .before .stage4 .given .1) at (c .before .before .before .before .pre .0) in (r .1, r .0)
 
 enum-told-3 : tie.Need-enum-told-3
 enum-told-3 c = search needs
+
+enum-told-4 : tie.Need-enum-told-4
+enum-told-4 c = search needs
+
+enum-told-5 : tie.Need-enum-told-5
+enum-told-5 c = search needs
 
 returns : tie.Need-returns
 unfolding timescale
@@ -106,10 +97,10 @@ returns-6 : tie.Need-returns-6
 returns-6 c = rw (c .before .before .stage4 .given .1, ← c .after-value .ensures)
 
 returns-7 : tie.Need-returns-7
-returns-7 c = rw (c .before .before .stage5 .given .1, ← c .after-time .ensures)
+returns-7 c = absurd (rw (c .enum-told3 .given .1) at (c .before .before .before .pre .1))
 
 returns-8 : tie.Need-returns-8
-returns-8 c = rw (c .before .before .before .stage6 .given .1, ← c .before .is-change .ensures, ← c .fixed5 .ensures)
+returns-8 c = absurd (rw (c .enum-told4 .given .1) at (c .before .before .before .pre .1))
 
 returns-9 : tie.Need-returns-9
 returns-9 c = search needs
@@ -138,12 +129,9 @@ next-spec =
     fixed-requires-4
     enum-known-stage-4
     after-value-requires
-    enum-known-stage-5
-    after-time-requires
-    enum-known-stage-6
-    is-change-requires
-    fixed-requires-5
     enum-told-3
+    enum-told-4
+    enum-told-5
     returns
     returns-2
     returns-3

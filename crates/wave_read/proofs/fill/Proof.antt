@@ -1,128 +1,147 @@
 -- `wave_read::fill` meets its contract.
-use borrow.Author.Needs.{needs}
-use Prim.Native.Nat.{_≤_, _<_, _-_, _+_}
-use mathlib.Core.Path.{_≡_, refl, ap, _∙_}
+use Prim.Native.Nat.{_≤_, _-_, _+_}
+use mathlib.Core.Path.{_≡_, refl, _∙_}
 use native.Mathlib.Omega.{arith}
 use lib.ListN.{length, drop}
-use Rattle.wave_rules.specs.declared.Stage.{Stage}
-use Rattle.wave_rules.specs.declared.Stage.the-variants.{Opening}
-use Rattle.wave_rules.specs.declared.Verdict.the-variants.{Fine}
+use borrow.Author.Needs.{needs}
+use Rattle.wave_rules.specs.declared.Stage.the-variants.{Waiting}
 use Rattle.wave_rules.specs.Lines.{splitOf}
-use Rattle.wave_rules.specs.Dump.{noBits}
-use Rattle.wave_rules.specs.Reader.{verdictOf, scriptWordsOf}
+use Rattle.wave_rules.specs.Dump.{noBits, flipOf}
+use Rattle.wave_rules.specs.Reader.{scriptWordsOf}
 use Rattle.print.specs.Print.{putOf}
-use Rattle.wave_rules.specs.Stages.{Reach, reach-next, words-count}
-use Rattle.wave_line.specs.Stages.{isLost}
-use Rattle.wave_line.specs.Laws.{onward-is}
-use Rattle.wave_read.specs.Laws.{scan-torn, scan-live, scan-turn, words-turn, words-room, words-end, put-all, not-bad}
+use Rattle.wave_read.specs.Laws.{Right, right-time, pair-of, put-turn, put-room, put-all, words-end}
 use Rattle.wave_read.proofs.fill.Statement.{statement}
 use Rattle.wave_read.proofs.fill.Tie as tie
 
 abbrev Inv-loop : tie.InvT-loop
-Inv-loop text n last out₀ bits₀ stage₀ at₀ k₀ used₀ out bits stage at k used = Reach stage × (k ≤ at + 1) × (at ≤ length text) × (length out ≡ length out₀) × (verdictOf k stage bits (splitOf (drop at text)) ≡ Fine n last) × (putOf out used (scriptWordsOf stage bits (splitOf (drop at text))) ≡ putOf out₀ 0 (scriptWordsOf Opening noBits (splitOf text)))
+Inv-loop text from n out₀ bits₀ last₀ at₀ used₀ out bits last at used = (at ≤ length text) × (length out ≡ length out₀) × Right text at n last bits × (putOf out used (scriptWordsOf (Waiting n last) bits (splitOf (drop at text))) ≡ putOf out₀ 0 (scriptWordsOf (Waiting n 0) noBits (splitOf (drop from text))))
 
 abbrev μ-loop : tie.MeasureT-loop
-μ-loop text n last out₀ bits₀ stage₀ at₀ k₀ used₀ out bits stage at k used = length text - at
+μ-loop text from n out₀ bits₀ last₀ at₀ used₀ out bits last at used = length text - at
 
 loop-holds : tie.Need-loop-holds Inv-loop μ-loop
 unfolding noBits
-loop-holds c = (tt, search needs, search needs, search needs, c .before .before .pre .0, refl)
+loop-holds c = (c .before .before .pre .1, search needs, c .before .before .pre .2, refl)
 
-end-of-requires : tie.Need-end-of-requires Inv-loop μ-loop
-end-of-requires c κs = search needs
+time-in-requires : tie.Need-time-in-requires Inv-loop μ-loop
+time-in-requires c κs =
+    let l = c .before .loop in
+    let a = c .before .before .before .before .args in
+    (c .loop-test .taken, omega (arith, right-time (a .text .now) (l .at) (a .n) (l .last) (l .bits) (c .loop-test .taken) (l .inv .2) .0))
+
+add-cell : tie.Need-add-cell Inv-loop μ-loop
+add-cell c =
+    let l = c .before .before .loop in
+    let a = c .before .before .before .before .before .args in
+    let p = pair-of (a .text .now) (l .at) (a .n) (l .last) (l .bits) _ (c .before .loop-test .taken) (l .inv .2) (c .time-in .ensures) in
+    omega (arith, p .inside)
+
+shared-slice-read-cell : tie.Need-shared-slice-read-cell Inv-loop μ-loop
+shared-slice-read-cell c =
+    let l = c .before .before .before .loop in
+    let a = c .before .before .before .before .before .before .args in
+    let p = pair-of (a .text .now) (l .at) (a .n) (l .last) (l .bits) _ (c .before .before .loop-test .taken) (l .inv .2) (c .before .time-in .ensures) in
+    omega (arith, p .inside)
+
+sub-cell : tie.Need-sub-cell Inv-loop μ-loop
+sub-cell c =
+    let l = c .before .before .before .loop in
+    let a = c .before .before .before .before .before .before .args in
+    let p = pair-of (a .text .now) (l .at) (a .n) (l .last) (l .bits) _ (c .before .before .loop-test .taken) (l .inv .2) (c .before .time-in .ensures) in
+    omega (arith, p .code)
+
+cast-cell : tie.Need-cast-cell Inv-loop μ-loop
+cast-cell c =
+    let l = c .before .before .before .loop in
+    let a = c .before .before .before .before .before .before .args in
+    let p = pair-of (a .text .now) (l .at) (a .n) (l .last) (l .bits) _ (c .before .before .loop-test .taken) (l .inv .2) (c .before .time-in .ensures) in
+    omega (arith, p .cell, c .before .before .before .before .before .before .pre .0)
+
+array-read-bit : tie.Need-array-read-bit Inv-loop μ-loop
+array-read-bit c =
+    let l = c .before .before .before .loop in
+    let a = c .before .before .before .before .before .before .args in
+    let p = pair-of (a .text .now) (l .at) (a .n) (l .last) (l .bits) _ (c .before .before .loop-test .taken) (l .inv .2) (c .before .time-in .ensures) in
+    omega (arith, p .cell, c .before .before .before .before .before .before .pre .0)
+
+sub-put-change : tie.Need-sub-put-change Inv-loop μ-loop
+sub-put-change c =
+    let l = c .before .before .before .before .loop in
+    let a = c .before .before .before .before .before .before .before .args in
+    let p = pair-of (a .text .now) (l .at) (a .n) (l .last) (l .bits) _ (c .before .before .before .loop-test .taken) (l .inv .2) (c .before .before .time-in .ensures) in
+    omega (arith, p .later)
+
+sub-put-change-2 : tie.Need-sub-put-change-2 Inv-loop μ-loop
+sub-put-change-2 c =
+    let l = c .before .before .before .before .loop in
+    let a = c .before .before .before .before .before .before .before .args in
+    let p = pair-of (a .text .now) (l .at) (a .n) (l .last) (l .bits) _ (c .before .before .before .loop-test .taken) (l .inv .2) (c .before .before .time-in .ensures) in
+    omega (arith, p .later)
+
+kind-for-requires : tie.Need-kind-for-requires Inv-loop μ-loop
+kind-for-requires c κs = search needs
+
+cast-put-change : tie.Need-cast-put-change Inv-loop μ-loop
+cast-put-change c =
+    let l = c .before .before .before .before .before .loop in
+    let a = c .before .before .before .before .before .before .before .before .args in
+    let p = pair-of (a .text .now) (l .at) (a .n) (l .last) (l .bits) _ (c .before .before .before .before .loop-test .taken) (l .inv .2) (c .before .before .before .time-in .ensures) in
+    omega (arith, p .cell, c .before .before .before .before .before .before .before .before .pre .0)
+
+put-change-requires : tie.Need-put-change-requires Inv-loop μ-loop
+put-change-requires c κs =
+    let l = c .before .before .before .before .before .loop in
+    let a = c .before .before .before .before .before .before .before .before .args in
+    let p = pair-of (a .text .now) (l .at) (a .n) (l .last) (l .bits) _ (c .before .before .before .before .loop-test .taken) (l .inv .2) (c .before .before .before .time-in .ensures) in
+    let room = put-room (l .out) (a .out .now) (l .used) 0 _ _ _ _ _ _ (p .words) (l .inv .3) in
+    omega (arith, room, p .later, l .inv .1, c .before .before .before .before .before .before .before .before .pre .3)
+
+turned-requires : tie.Need-turned-requires Inv-loop μ-loop
+turned-requires c κs = search needs
+
+array-write-bits : tie.Need-array-write-bits Inv-loop μ-loop
+array-write-bits c =
+    let l = c .before .before .before .before .before .before .before .before .before .loop in
+    let a = c .before .before .before .before .before .before .before .before .before .before .before .before .args in
+    let p = pair-of (a .text .now) (l .at) (a .n) (l .last) (l .bits) _ (c .before .before .before .before .before .before .before .before .loop-test .taken) (l .inv .2) (c .before .before .before .before .before .before .before .time-in .ensures) in
+    omega (arith, p .cell, c .before .before .before .before .before .before .before .before .before .before .before .before .pre .0)
+
+add-at : tie.Need-add-at Inv-loop μ-loop
+add-at c =
+    let l = c .before .before .before .before .before .before .before .before .before .loop in
+    let a = c .before .before .before .before .before .before .before .before .before .before .before .before .args in
+    let p = pair-of (a .text .now) (l .at) (a .n) (l .last) (l .bits) _ (c .before .before .before .before .before .before .before .before .loop-test .taken) (l .inv .2) (c .before .before .before .before .before .before .before .time-in .ensures) in
+    omega (arith, p .inside)
+
+loop-less : tie.Need-loop-less Inv-loop μ-loop
+loop-less c =
+    let l = c .before .before .before .before .before .before .before .before .before .loop in
+    let a = c .before .before .before .before .before .before .before .before .before .before .before .before .args in
+    let p = pair-of (a .text .now) (l .at) (a .n) (l .last) (l .bits) _ (c .before .before .before .before .before .before .before .before .loop-test .taken) (l .inv .2) (c .before .before .before .before .before .before .before .time-in .ensures) in
+    omega (arith, p .inside, p .ahead)
+
+loop-again : tie.Need-loop-again Inv-loop μ-loop
+unfolding flipOf
+loop-again c =
+    let l = c .before .before .before .before .before .before .before .before .before .loop in
+    let a = c .before .before .before .before .before .before .before .before .before .before .before .before .args in
+    let p = pair-of (a .text .now) (l .at) (a .n) (l .last) (l .bits) _ (c .before .before .before .before .before .before .before .before .loop-test .taken) (l .inv .2) (c .before .before .before .before .before .before .before .time-in .ensures) in
+    let t = c .before .before .before .before .before .before .before .time-in .result .value in
+    let gap : t - 1 - l .last ≡ t - (l .last + 1) = omega arith in (
+      omega (arith, p .inside),
+      omega (arith, c .before .before .before .put-change .kept, l .inv .1),
+      rw (c .turned .ensures) (p .turn),
+      rw (c .turned .ensures) (put-turn (l .out) _ (l .used) _ _ _ _ (p .words) (rw (gap, c .before .before .before .before .kind-for .ensures) at (c .before .before .before .put-change .ensures)) ∙ l .inv .3),
+    )
 
 same-length : tie.Need-same-length Inv-loop μ-loop
 same-length c = search needs
 
 returns : tie.Need-returns Inv-loop μ-loop
 returns c =
-    let l = c .before .before .before .loop in
-    let a = c .before .before .before .before .before .before .args in
-    not-bad (l .k) (a .n) (a .last) _ (scan-torn (a .text .now) (l .at) _ (l .k) (l .stage) (l .bits) (search needs) (c .before .end-of .ensures .0) (c .if1 .taken)) (l .inv .4)
-
-sub-onward : tie.Need-sub-onward Inv-loop μ-loop
-sub-onward c = search needs
-
-part-onward-start : tie.Need-part-onward-start Inv-loop μ-loop
-part-onward-start c = omega (arith, c .before .end-of .ensures .1)
-
-part-onward-end : tie.Need-part-onward-end Inv-loop μ-loop
-part-onward-end c = omega (arith, c .before .end-of .ensures .1)
-
-onward-requires : tie.Need-onward-requires Inv-loop μ-loop
-onward-requires c κs = c .before .before .before .before .loop .inv .0
-
-sub-put-words : tie.Need-sub-put-words Inv-loop μ-loop
-sub-put-words c = search needs
-
-part-put-words-start : tie.Need-part-put-words-start Inv-loop μ-loop
-part-put-words-start c = omega (arith, c .before .before .before .before .end-of .ensures .1)
-
-part-put-words-end : tie.Need-part-put-words-end Inv-loop μ-loop
-part-put-words-end c = omega (arith, c .before .before .before .before .end-of .ensures .1)
-
-put-words-requires : tie.Need-put-words-requires Inv-loop μ-loop
-put-words-requires c κs =
-    let l = c .before .before .before .before .before .before .before .before .loop in
-    let a = c .before .before .before .before .before .before .before .before .before .before .before .args in
-    let e = c .before .before .before .before .before .before .end-of .ensures in
-    let inside : c .before .before .before .before .before .before .end-of .result < length (a .text .now) = omega (arith, e .1, c .before .before .before .before .before .if1 .left) in
-    let room = words-room (a .text .now) (l .at) _ (l .stage) (l .bits) (l .out) (a .out .now) (l .used) 0 (scriptWordsOf Opening noBits (splitOf (a .text .now))) (e .0) inside (l .inv .5) in (
-      l .inv .0,
-      scan-live (a .text .now) (l .at) _ (l .k) (a .n) (a .last) (l .stage) (l .bits) (e .0) inside (l .inv .4),
-      omega (arith, room, l .inv .3, c .before .before .before .before .before .before .before .before .before .before .before .pre .1, words-count (splitOf (a .text .now)) (a .n) (a .last) noBits (c .before .before .before .before .before .before .before .before .before .before .before .pre .0)),
-    )
-
-sub-bits-after : tie.Need-sub-bits-after Inv-loop μ-loop
-sub-bits-after c = search needs
-
-part-bits-after-start : tie.Need-part-bits-after-start Inv-loop μ-loop
-part-bits-after-start c = omega (arith, c .before .before .before .before .before .before .before .before .before .before .end-of .ensures .1)
-
-part-bits-after-end : tie.Need-part-bits-after-end Inv-loop μ-loop
-part-bits-after-end c = omega (arith, c .before .before .before .before .before .before .before .before .before .before .end-of .ensures .1)
-
-bits-after-requires : tie.Need-bits-after-requires Inv-loop μ-loop
-bits-after-requires c κs =
-    let l = c .before .before .before .before .before .before .before .before .before .before .before .before .before .loop in
-    let a = c .before .before .before .before .before .before .before .before .before .before .before .before .before .before .before .before .args in
-    let e = c .before .before .before .before .before .before .before .before .before .before .before .end-of .ensures in
-    let inside : c .before .before .before .before .before .before .before .before .before .before .before .end-of .result < length (a .text .now) = omega (arith, e .1, c .before .before .before .before .before .before .before .before .before .before .if1 .left) in
-    (l .inv .0, scan-live (a .text .now) (l .at) _ (l .k) (a .n) (a .last) (l .stage) (l .bits) (e .0) inside (l .inv .4))
-
-add-at : tie.Need-add-at Inv-loop μ-loop
-add-at c = omega (arith, c .before .before .before .before .before .before .before .before .before .before .before .before .end-of .ensures .1, c .before .before .before .before .before .before .before .before .before .before .before .if1 .left)
-
-add-k : tie.Need-add-k Inv-loop μ-loop
-add-k c = omega (arith, c .before .before .before .before .before .before .before .before .before .before .before .before .before .before .loop .inv .1, c .before .before .before .before .before .before .before .before .before .before .before .before .end-of .ensures .1, c .before .before .before .before .before .before .before .before .before .before .before .if1 .left)
-
-loop-less : tie.Need-loop-less Inv-loop μ-loop
-loop-less c = omega (arith, c .before .before .before .before .before .before .before .before .before .before .before .before .end-of .ensures .1, c .before .before .before .before .before .before .before .before .before .before .before .if1 .left, c .before .before .before .before .before .before .before .before .before .before .before .before .before .loop-test .taken)
-
-loop-again : tie.Need-loop-again Inv-loop μ-loop
-loop-again c =
-    let l = c .before .before .before .before .before .before .before .before .before .before .before .before .before .before .loop in
-    let a = c .before .before .before .before .before .before .before .before .before .before .before .before .before .before .before .before .before .args in
-    let e = c .before .before .before .before .before .before .before .before .before .before .before .before .end-of .ensures in
-    let inside : c .before .before .before .before .before .before .before .before .before .before .before .before .end-of .result < length (a .text .now) = omega (arith, e .1, c .before .before .before .before .before .before .before .before .before .before .before .if1 .left) in
-    let live = scan-live (a .text .now) (l .at) _ (l .k) (a .n) (a .last) (l .stage) (l .bits) (e .0) inside (l .inv .4) in
-    let next = c .before .before .before .before .before .before .before .before .before .onward .ensures ∙ onward-is (l .stage) (l .bits) _ live in (
-      rw next (reach-next (l .stage) (l .bits) _ (l .inv .0)),
-      omega (arith, l .inv .1, e .1),
-      omega (arith, inside),
-      omega (arith, c .before .before .before .before .before .put-words .kept, l .inv .3),
-      scan-turn (a .text .now) (l .at) _ (l .k) (l .stage) _ (l .bits) _ (e .0) inside next (ap (λ (s : Stage). isLost s) next ∙ live) (c .bits-after .ensures) ∙ l .inv .4,
-      words-turn (a .text .now) (l .at) _ (l .stage) _ (l .bits) _ (l .out) _ (l .used) _ (e .0) inside next (c .bits-after .ensures) (c .before .before .before .before .before .put-words .ensures) ∙ l .inv .5,
-    )
-
-same-length-2 : tie.Need-same-length-2 Inv-loop μ-loop
-same-length-2 c = search needs
-
-returns-2 : tie.Need-returns-2 Inv-loop μ-loop
-returns-2 c =
     let l = c .before .loop in
     let a = c .before .before .before .before .args in
-    put-all (a .out .now) (l .out) (l .used) _ (rw (words-end (a .text .now) (l .at) (l .stage) (l .bits) (search needs)) at (l .inv .5))
+    put-all (a .out .now) (l .out) (l .used) _ (rw (words-end (a .text .now) (l .at) (Waiting (a .n) (l .last)) (l .bits) (search needs)) at (l .inv .3))
 
 pub fill-spec : {M : Type 1} → statement M
 fill-spec =
@@ -131,24 +150,21 @@ fill-spec =
     Inv-loop
     μ-loop
     loop-holds
-    end-of-requires
-    same-length
-    returns
-    sub-onward
-    part-onward-start
-    part-onward-end
-    onward-requires
-    sub-put-words
-    part-put-words-start
-    part-put-words-end
-    put-words-requires
-    sub-bits-after
-    part-bits-after-start
-    part-bits-after-end
-    bits-after-requires
+    time-in-requires
+    add-cell
+    shared-slice-read-cell
+    sub-cell
+    cast-cell
+    array-read-bit
+    sub-put-change
+    sub-put-change-2
+    kind-for-requires
+    cast-put-change
+    put-change-requires
+    turned-requires
+    array-write-bits
     add-at
-    add-k
     loop-less
     loop-again
-    same-length-2
-    returns-2)
+    same-length
+    returns)

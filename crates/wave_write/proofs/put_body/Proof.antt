@@ -46,7 +46,7 @@ step-requires : tie.Need-step-requires Inv-loop μ-loop
 step-requires c κs =
     let l = c .before .before .before .before .before .loop in
     let a = c .before .before .before .before .before .before .before .before .args in
-    (search needs, λ z. omega (arith, l .inv .0, c .before .before .before .before .before .before .before .before .pre, body-room (a .n) (l .t) (l .bits) (a .script .now) (l .i) (l .out) (a .out .now) (l .used) (a .at) (joined (bodyOf (a .n) 1 noBits (a .script .now))) (search needs) z (l .inv .3)))
+    (search needs, search needs, λ z. omega (arith, l .inv .0, c .before .before .before .before .before .before .before .before .pre, body-room (a .n) (l .t) (l .bits) (a .script .now) (l .i) (l .out) (a .out .now) (l .used) (a .at) (joined (bodyOf (a .n) 1 noBits (a .script .now))) (search needs) z (l .inv .3)))
 
 add-t : tie.Need-add-t Inv-loop μ-loop
 add-t c = search needs

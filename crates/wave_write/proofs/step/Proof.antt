@@ -26,7 +26,7 @@ put-change-requires c κs =
     let a = c .before .before .before .before .before .before .args in
     let f = turn-true (a .n) (a .bits .now) _ (a .kind) (a .cell) _ (c .before .before .if1 .taken) (c .before .before .before .flip .ensures) in
     let l = changes-in (a .n) (a .bits .now) (a .kind) (a .cell) (f .0) in
-    (omega (arith, c .before .wanted .ensures, wanted-few (a .kind)), omega (arith, l .0), c .before .before .before .before .before .before .pre .1 (f .0))
+    (omega (arith, c .before .wanted .ensures, wanted-few (a .kind)), omega (arith, l .0), search needs, c .before .before .before .before .before .before .pre .2 (f .0))
 
 same-length : tie.Need-same-length
 same-length c = search needs
