@@ -21,6 +21,18 @@ ghost use Rattle.wave_rules.specs.Calls.{writeOf, readIntoOf};
 ghost use Rattle.skid_rules.specs.Words.{replyWords, scriptReplyWords, crewWords, salvageWords, bookWords, dumpedWords};
 ghost use Rattle.skid_rules.specs.Words.{undumpedWords, told};
 
+// The head that a call is given.
+fn head_of(headers: u32, buckets: u32, next: u32, boot: u32) -> Head
+    ensures { λ r. ⌜ r ≡ headOf headers buckets next boot ⌝ }
+{
+    Head {
+        headers,
+        buckets,
+        next,
+        boot,
+    }
+}
+
 // The number of this interface, which is a part of the name: a program asks for the name that it was compiled with, and
 // with another interface it does not link. The number rises with every change of a call, of an answer or of a layout.
 #[no_mangle]
@@ -77,12 +89,7 @@ pub extern "C" fn skid_salvage(
         ≡ told salvageWords (salvageOf (headOf headers buckets next boot) (now (table .entry)) (now (health .entry))
         (now (report .entry)) (now (unconfirmed .entry))) ⌝ }
 {
-    let head = Head {
-        headers,
-        buckets,
-        next,
-        boot,
-    };
+    let head = head_of(headers, buckets, next, boot);
     let r = salvage::salvage(head, table, health, report, unconfirmed);
     *reply = skid_words::salvage_words(r);
 }
@@ -103,12 +110,7 @@ pub extern "C" fn skid_try_acquire(
     ensures { λ _. ⌜ (now (reply .exit), now (table .exit))
         ≡ told replyWords (tryAcquireOf (headOf headers buckets next boot) (now (table .entry)) cell .seen) ⌝ }
 {
-    let head = Head {
-        headers,
-        buckets,
-        next,
-        boot,
-    };
+    let head = head_of(headers, buckets, next, boot);
     let r = lease::try_acquire(head, table, cell);
     *reply = skid_words::reply_words(r);
 }
@@ -131,12 +133,7 @@ pub extern "C" fn skid_drop_lease(
         ≡ told replyWords (dropLeaseOf (headOf headers buckets next boot) (now (table .entry))
         (leaseOf cell serial «lease_boot») .seen) ⌝ }
 {
-    let head = Head {
-        headers,
-        buckets,
-        next,
-        boot,
-    };
+    let head = head_of(headers, buckets, next, boot);
     let lease = Lease {
         cell,
         serial,
@@ -163,12 +160,7 @@ pub extern "C" fn skid_read_permission(
         ≡ replyWords (readPermissionOf (headOf headers buckets next boot) (now (table .entry))
         (leaseOf cell serial «lease_boot») .seen) ⌝ }
 {
-    let head = Head {
-        headers,
-        buckets,
-        next,
-        boot,
-    };
+    let head = head_of(headers, buckets, next, boot);
     let lease = Lease {
         cell,
         serial,
@@ -195,12 +187,7 @@ pub extern "C" fn skid_competing_acquire_is_excluded(
         ≡ told replyWords (competingAcquireOf (headOf headers buckets next boot) (now (table .entry))
         (leaseOf cell serial «lease_boot») .seen) ⌝ }
 {
-    let head = Head {
-        headers,
-        buckets,
-        next,
-        boot,
-    };
+    let head = head_of(headers, buckets, next, boot);
     let lease = Lease {
         cell,
         serial,
@@ -227,12 +214,7 @@ pub extern "C" fn skid_release_then_handoff(
         ≡ told replyWords (releaseThenHandoffOf (headOf headers buckets next boot) (now (table .entry))
         (leaseOf cell serial «lease_boot») .seen) ⌝ }
 {
-    let head = Head {
-        headers,
-        buckets,
-        next,
-        boot,
-    };
+    let head = head_of(headers, buckets, next, boot);
     let lease = Lease {
         cell,
         serial,
@@ -260,12 +242,7 @@ pub extern "C" fn skid_foreign_release_between_attempts(
         ≡ told replyWords (foreignReleaseOf (headOf headers buckets next boot) (now (table .entry))
         (now (held .entry)) (leaseOf cell serial «lease_boot») .seen) ⌝ }
 {
-    let head = Head {
-        headers,
-        buckets,
-        next,
-        boot,
-    };
+    let head = head_of(headers, buckets, next, boot);
     let lease = Lease {
         cell,
         serial,
@@ -292,12 +269,7 @@ pub extern "C" fn skid_acquire_preserving_borrows(
         ≡ told replyWords (acquirePreservingOf (headOf headers buckets next boot) (now (table .entry))
         (now (held .entry)) cell .seen) ⌝ }
 {
-    let head = Head {
-        headers,
-        buckets,
-        next,
-        boot,
-    };
+    let head = head_of(headers, buckets, next, boot);
     let r = lease::acquire_preserving_borrows(head, table, held, cell);
     *reply = skid_words::reply_words(r);
 }
@@ -320,12 +292,7 @@ pub extern "C" fn skid_drop_preserving_borrows(
         ≡ told replyWords (dropPreservingOf (headOf headers buckets next boot) (now (table .entry))
         (now (held .entry)) (leaseOf cell serial «lease_boot») .seen) ⌝ }
 {
-    let head = Head {
-        headers,
-        buckets,
-        next,
-        boot,
-    };
+    let head = head_of(headers, buckets, next, boot);
     let lease = Lease {
         cell,
         serial,
@@ -355,12 +322,7 @@ pub extern "C" fn skid_environment(
         ≡ told scriptReplyWords (environmentOf (headOf headers buckets next boot) (now (table .entry))
         (now (health .entry)) (now (script .entry)) place (now (held .entry)) .seen) ⌝ }
 {
-    let head = Head {
-        headers,
-        buckets,
-        next,
-        boot,
-    };
+    let head = head_of(headers, buckets, next, boot);
     let r = foreign::environment(head, table, health, script, place, held);
     *reply = skid_words::script_reply_words(r);
 }
@@ -418,12 +380,7 @@ pub extern "C" fn skid_try_lock(
         ≡ told scriptReplyWords (tryLockOf (headOf headers buckets next boot) (now (table .entry)) (now (health .entry))
         (now (script .entry)) place (now (held .entry)) cell .seen) ⌝ }
 {
-    let head = Head {
-        headers,
-        buckets,
-        next,
-        boot,
-    };
+    let head = head_of(headers, buckets, next, boot);
     let r = lock::try_lock(head, table, health, script, place, held, cell);
     *reply = skid_words::script_reply_words(r);
 }
@@ -485,12 +442,7 @@ pub extern "C" fn skid_transactional_try_lock_bucket(
         (now (health .entry)) (now (registry .entry)) (now (script .entry)) place (now (held .entry)) binding
         bucket .seen) ⌝ }
 {
-    let head = Head {
-        headers,
-        buckets,
-        next,
-        boot,
-    };
+    let head = head_of(headers, buckets, next, boot);
     let r = bucket::transactional_try_lock_bucket(
         head,
         table,
@@ -528,12 +480,7 @@ pub extern "C" fn skid_acquire_index_bucket(
         (now (health .entry)) (now (registry .entry)) (now (script .entry)) place (now (held .entry)) binding
         bucket .seen) ⌝ }
 {
-    let head = Head {
-        headers,
-        buckets,
-        next,
-        boot,
-    };
+    let head = head_of(headers, buckets, next, boot);
     let r = bucket::acquire_index_bucket(
         head,
         table,
@@ -566,12 +513,7 @@ pub extern "C" fn skid_release_all(
         ≡ told scriptReplyWords (releaseAllOf (headOf headers buckets next boot) (now (table .entry))
         (now (health .entry)) (now (script .entry)) place (now (leases .entry)) .seen) ⌝ }
 {
-    let head = Head {
-        headers,
-        buckets,
-        next,
-        boot,
-    };
+    let head = head_of(headers, buckets, next, boot);
     let r = release::release_all(head, table, health, script, place, leases);
     *reply = skid_words::script_reply_words(r);
 }
@@ -598,12 +540,7 @@ pub extern "C" fn skid_acquire_index_locks(
         (now (health .entry)) (now (registry .entry)) (now (script .entry)) place (now (held .entry))
         (now (keys .entry)) (now (grants .entry)) .seen) ⌝ }
 {
-    let head = Head {
-        headers,
-        buckets,
-        next,
-        boot,
-    };
+    let head = head_of(headers, buckets, next, boot);
     let r = multilock::acquire_index_locks(
         head,
         table,
@@ -641,12 +578,7 @@ pub extern "C" fn skid_acquire_sorted_locks(
         (now (health .entry)) (now (registry .entry)) (now (script .entry)) place (now (held .entry))
         (now (keys .entry)) (now (grants .entry)) .seen) ⌝ }
 {
-    let head = Head {
-        headers,
-        buckets,
-        next,
-        boot,
-    };
+    let head = head_of(headers, buckets, next, boot);
     let r = sorted::acquire_sorted_locks(
         head,
         table,
@@ -681,12 +613,7 @@ pub extern "C" fn skid_crew(
         ≡ told crewWords (crewOf (headOf headers buckets next boot) (now (table .entry)) (now (health .entry))
         (now (counts .entry)) (now (cells .entry)) (now (turns .entry)) .seen) ⌝ }
 {
-    let head = Head {
-        headers,
-        buckets,
-        next,
-        boot,
-    };
+    let head = head_of(headers, buckets, next, boot);
     let r = crew::crew(head, table, health, counts, cells, turns);
     *reply = skid_words::crew_words(r);
 }
@@ -712,12 +639,7 @@ pub extern "C" fn skid_crew_at_work(
         (now (health .entry)) (now (counts .entry)) (now (cells .entry)) (now (turns .entry))
         (now (counters .entry)) .seen) ⌝ }
 {
-    let head = Head {
-        headers,
-        buckets,
-        next,
-        boot,
-    };
+    let head = head_of(headers, buckets, next, boot);
     let r = crew_at_work::crew_at_work(head, table, health, counts, cells, turns, counters);
     *reply = skid_words::crew_words(r);
 }
@@ -737,12 +659,7 @@ pub extern "C" fn skid_prepare_book(
     ensures { λ _. ⌜ (now (reply .exit), now (book .exit))
         ≡ told bookWords (prepareBookOf (headOf headers buckets next boot) (now (book .entry))) ⌝ }
 {
-    let head = Head {
-        headers,
-        buckets,
-        next,
-        boot,
-    };
+    let head = head_of(headers, buckets, next, boot);
     let r = book::prepare_book(head, book);
     *reply = skid_words::book_words(r);
 }
@@ -783,12 +700,7 @@ pub extern "C" fn skid_write_pressure(
         ≡ told bookWords (writeSetpointOf (headOf headers buckets next boot) (now (table .entry))
         (now (book .entry)) slot (leaseOf cell serial «lease_boot») (Pressure (ofBits binary32 bits))) ⌝ }
 {
-    let head = Head {
-        headers,
-        buckets,
-        next,
-        boot,
-    };
+    let head = head_of(headers, buckets, next, boot);
     let lease = Lease {
         cell,
         serial,
@@ -819,12 +731,7 @@ pub extern "C" fn skid_write_speed(
         ≡ told bookWords (writeSetpointOf (headOf headers buckets next boot) (now (table .entry))
         (now (book .entry)) slot (leaseOf cell serial «lease_boot») (Speed speed)) ⌝ }
 {
-    let head = Head {
-        headers,
-        buckets,
-        next,
-        boot,
-    };
+    let head = head_of(headers, buckets, next, boot);
     let lease = Lease {
         cell,
         serial,
@@ -854,12 +761,7 @@ pub extern "C" fn skid_write_valve(
         ≡ told bookWords (writeSetpointOf (headOf headers buckets next boot) (now (table .entry))
         (now (book .entry)) slot (leaseOf cell serial «lease_boot») (Valve opened)) ⌝ }
 {
-    let head = Head {
-        headers,
-        buckets,
-        next,
-        boot,
-    };
+    let head = head_of(headers, buckets, next, boot);
     let lease = Lease {
         cell,
         serial,
@@ -883,12 +785,7 @@ pub extern "C" fn skid_read_setpoint(
     ensures { λ _. ⌜ now (reply .exit)
         ≡ bookWords (readSetpointOf (headOf headers buckets next boot) (now (book .entry)) slot) ⌝ }
 {
-    let head = Head {
-        headers,
-        buckets,
-        next,
-        boot,
-    };
+    let head = head_of(headers, buckets, next, boot);
     let r = book::read_setpoint(head, book, slot);
     *reply = skid_words::book_words(r);
 }
@@ -908,12 +805,7 @@ pub extern "C" fn skid_read_version(
     ensures { λ _. ⌜ now (reply .exit)
         ≡ bookWords (readVersionOf (headOf headers buckets next boot) (now (book .entry)) slot version) ⌝ }
 {
-    let head = Head {
-        headers,
-        buckets,
-        next,
-        boot,
-    };
+    let head = head_of(headers, buckets, next, boot);
     let r = book::read_version(head, book, slot, version);
     *reply = skid_words::book_words(r);
 }

@@ -3,6 +3,9 @@ use borrow.Author.Needs.{needs}
 use Rattle.skid.proofs.skid_acquire_index_locks.Statement.{statement}
 use Rattle.skid.proofs.skid_acquire_index_locks.Tie as tie
 
+head-of-requires : tie.Need-head-of-requires
+head-of-requires c κs = search needs
+
 acquire-index-locks-requires : tie.Need-acquire-index-locks-requires
 acquire-index-locks-requires c κs = search needs
 
@@ -19,13 +22,13 @@ same-length-3 : tie.Need-same-length-3
 same-length-3 c = search needs
 
 returns : tie.Need-returns
-returns c = rw (← c .before .before .before .before .before .before .before .acquire-index-locks .ensures, ← c .script-reply-words .ensures)
+returns c = rw (← c .before .before .before .before .before .before .before .before .before .before .before .head-of .ensures, ← c .before .before .before .before .before .before .before .acquire-index-locks .ensures, ← c .script-reply-words .ensures)
 
 pub skid-acquire-index-locks-spec : {M : Type 1} → statement M
 skid-acquire-index-locks-spec =
     tie.close
     (tie.spec
-    acquire-index-locks-requires
+    head-of-requires acquire-index-locks-requires
     script-reply-words-requires
     same-length
     same-length-2

@@ -3,6 +3,9 @@ use borrow.Author.Needs.{needs}
 use Rattle.skid.proofs.skid_acquire_sorted_locks.Statement.{statement}
 use Rattle.skid.proofs.skid_acquire_sorted_locks.Tie as tie
 
+head-of-requires : tie.Need-head-of-requires
+head-of-requires c κs = search needs
+
 acquire-sorted-locks-requires : tie.Need-acquire-sorted-locks-requires
 acquire-sorted-locks-requires c κs = search needs
 
@@ -19,13 +22,13 @@ same-length-3 : tie.Need-same-length-3
 same-length-3 c = search needs
 
 returns : tie.Need-returns
-returns c = rw (← c .before .before .before .before .before .before .before .acquire-sorted-locks .ensures, ← c .script-reply-words .ensures)
+returns c = rw (← c .before .before .before .before .before .before .before .before .before .before .before .head-of .ensures, ← c .before .before .before .before .before .before .before .acquire-sorted-locks .ensures, ← c .script-reply-words .ensures)
 
 pub skid-acquire-sorted-locks-spec : {M : Type 1} → statement M
 skid-acquire-sorted-locks-spec =
     tie.close
     (tie.spec
-    acquire-sorted-locks-requires
+    head-of-requires acquire-sorted-locks-requires
     script-reply-words-requires
     same-length
     same-length-2

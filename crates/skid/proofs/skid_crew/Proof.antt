@@ -3,6 +3,9 @@ use borrow.Author.Needs.{needs}
 use Rattle.skid.proofs.skid_crew.Statement.{statement}
 use Rattle.skid.proofs.skid_crew.Tie as tie
 
+head-of-requires : tie.Need-head-of-requires
+head-of-requires c κs = search needs
+
 crew-requires : tie.Need-crew-requires
 crew-requires c κs = search needs
 
@@ -13,7 +16,7 @@ same-length : tie.Need-same-length
 same-length c = search needs
 
 returns : tie.Need-returns
-returns c = rw (← c .before .before .before .crew .ensures, ← c .crew-words .ensures)
+returns c = rw (← c .before .before .before .before .before .head-of .ensures, ← c .before .before .before .crew .ensures, ← c .crew-words .ensures)
 
 pub skid-crew-spec : {M : Type 1} → statement M
-skid-crew-spec = tie.close (tie.spec crew-requires crew-words-requires same-length returns)
+skid-crew-spec = tie.close (tie.spec head-of-requires crew-requires crew-words-requires same-length returns)

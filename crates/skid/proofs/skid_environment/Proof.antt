@@ -3,6 +3,9 @@ use borrow.Author.Needs.{needs}
 use Rattle.skid.proofs.skid_environment.Statement.{statement}
 use Rattle.skid.proofs.skid_environment.Tie as tie
 
+head-of-requires : tie.Need-head-of-requires
+head-of-requires c κs = search needs
+
 environment-requires : tie.Need-environment-requires
 environment-requires c κs = search needs
 
@@ -16,9 +19,9 @@ same-length-2 : tie.Need-same-length-2
 same-length-2 c = search needs
 
 returns : tie.Need-returns
-returns c = rw (← c .before .before .before .before .before .environment .ensures, ← c .script-reply-words .ensures)
+returns c = rw (← c .before .before .before .before .before .before .before .before .head-of .ensures, ← c .before .before .before .before .before .environment .ensures, ← c .script-reply-words .ensures)
 
 pub skid-environment-spec : {M : Type 1} → statement M
 skid-environment-spec =
     tie.close
-    (tie.spec environment-requires script-reply-words-requires same-length same-length-2 returns)
+    (tie.spec head-of-requires environment-requires script-reply-words-requires same-length same-length-2 returns)

@@ -3,6 +3,9 @@ use borrow.Author.Needs.{needs}
 use Rattle.skid.proofs.skid_salvage.Statement.{statement}
 use Rattle.skid.proofs.skid_salvage.Tie as tie
 
+head-of-requires : tie.Need-head-of-requires
+head-of-requires c κs = search needs
+
 salvage-requires : tie.Need-salvage-requires
 salvage-requires c κs = search needs
 
@@ -22,13 +25,13 @@ same-length-4 : tie.Need-same-length-4
 same-length-4 c = search needs
 
 returns : tie.Need-returns
-returns c = rw (← c .before .before .before .before .before .before .before .before .before .salvage .ensures, ← c .salvage-words .ensures)
+returns c = rw (← c .before .before .before .before .before .before .before .before .before .before .before .before .before .before .head-of .ensures, ← c .before .before .before .before .before .before .before .before .before .salvage .ensures, ← c .salvage-words .ensures)
 
 pub skid-salvage-spec : {M : Type 1} → statement M
 skid-salvage-spec =
     tie.close
     (tie.spec
-    salvage-requires
+    head-of-requires salvage-requires
     salvage-words-requires
     same-length
     same-length-2

@@ -3,6 +3,9 @@ use borrow.Author.Needs.{needs}
 use Rattle.skid.proofs.skid_try_lock.Statement.{statement}
 use Rattle.skid.proofs.skid_try_lock.Tie as tie
 
+head-of-requires : tie.Need-head-of-requires
+head-of-requires c κs = search needs
+
 try-lock-requires : tie.Need-try-lock-requires
 try-lock-requires c κs = search needs
 
@@ -16,8 +19,8 @@ same-length-2 : tie.Need-same-length-2
 same-length-2 c = search needs
 
 returns : tie.Need-returns
-returns c = rw (← c .before .before .before .before .before .try-lock .ensures, ← c .script-reply-words .ensures)
+returns c = rw (← c .before .before .before .before .before .before .before .before .head-of .ensures, ← c .before .before .before .before .before .try-lock .ensures, ← c .script-reply-words .ensures)
 
 pub skid-try-lock-spec : {M : Type 1} → statement M
 skid-try-lock-spec =
-    tie.close (tie.spec try-lock-requires script-reply-words-requires same-length same-length-2 returns)
+    tie.close (tie.spec head-of-requires try-lock-requires script-reply-words-requires same-length same-length-2 returns)
