@@ -80,7 +80,8 @@ uint32_t taken_inside, registers_lost;
 /* Who is on turn goes on; if it was he who had the processor, the next one gets some of his time. */
 void tick(struct frame *f)
 {
-    taken_inside += f->rip >= (uintptr_t)library_begin && f->rip < (uintptr_t)library_end;
+    const bool is_inside = f->rip >= (uintptr_t)library_begin && f->rip < (uintptr_t)library_end;
+    taken_inside += is_inside && f->rsp - (uintptr_t)f > sizeof *f + 15; /* on a stack of its own, not below his */
     context[running].frame = *f;
     __asm__ volatile("fxsave64 %0" : "=m"(context[running].sse));
     running = on_turn != running ? on_turn : (running + 1) % (TASKS + 1);
