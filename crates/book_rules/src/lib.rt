@@ -4,7 +4,7 @@ use setpoint::Setpoint;
 
 // The refusals of the book's calls. BadShape is document 01's number 1, NotHeld its 12 and StaleBoot document
 // 02's 16 (L8); the others have no number.
-#[derive(Drop)]
+#[derive(Clone, Copy)]
 pub enum BookRefusal {
     BadShape,
     BadSlot,
@@ -18,7 +18,7 @@ pub enum BookRefusal {
 }
 
 // A call's answer. `Written` gives the new version and the bytes moved, `Setting` the setpoint and its version.
-#[derive(Drop)]
+#[derive(Clone, Copy)]
 pub enum BookAnswer {
     Done,
     Written(u32, u32),
@@ -27,7 +27,7 @@ pub enum BookAnswer {
 }
 
 // What the checks of a call come to.
-#[derive(Drop)]
+#[derive(Clone, Copy)]
 pub enum BookCheck {
     Fine,
     Fault(BookRefusal),

@@ -27,7 +27,7 @@ use Rattle.book_rules.specs.Outcomes.{Keeps}
 use Rattle.book_rules.specs.declared.BookAnswer.TheVariants.{Done, Written, Setting, Refused}
 use Rattle.book_rules.specs.declared.BookRefusal.TheVariants.{StaleBoot, NotHeld, DamagedBook, BookFull, NeverWritten}
 use Rattle.history.specs.World.{World, world_of}
-use Rattle.history.specs.Items.{call, try_acquire_lem, drop-lease, preparation, preparation_over, perform, cold, next_item, preparing}
+use Rattle.history.specs.Items.{call, try_acquire_lem, drop_lease, preparation, preparation_over, perform, cold, next_item, preparing}
 use Rattle.book_theory.specs.Items.{BookItem, arena_item, prepare_book, write_setpoint, read_setpoint, read_version, BookEntry, prepared, wrote, was_read, version_read_lem, Shift, shift_of, slots_in, preparing_book, writing, reading, reading_version, next_shift, run_shift, settings, newest_read, version_read, SameSlots, AllTyped}
 use Rattle.book_theory.specs.Statements.{summed, is_moved, ReleasedBetween, Writable, Needed, AsWritten}
 use Rattle.book_theory.specs.Theorems.{others_read_as_before, new_reads_as_written, oldest_is_dropped, moved_is_summed, full_exactly, done_exactly, reads_exactly, prepared_reads_nothing, reads_last_write, reads_newest_four, never_exactly, forgets_older_bytes, never_damaged, written_by_holder, one_writer, writers_parted, damage_stays}

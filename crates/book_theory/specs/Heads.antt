@@ -4,7 +4,7 @@ use Rattle.std.proofs.Common.{sym, ◌∙◌, subst, arith}
 use Rattle.model.specs.Arena.{head_of, head_fits, shape_fits, health_fits, cells_of}
 use Rattle.model.specs.Calls.{prepare_of}
 use Rattle.model.specs.Salvage.{Salvage, salvage_of}
-use Rattle.model.specs.Log.{Event, attempt-begun, boundary-run, yielded, spun, step-dropped, took, released, waiters_set, health_set, held_all_lem, added}
+use Rattle.model.specs.Log.{Event, attempt_begun, boundary_run, yielded, spun, step_dropped, took, released, waiters_set, health_set, held_all_lem, added}
 use Rattle.types.specs.declared.Head.{Head}
 use Rattle.choice.specs.Pick.{both}
 use Rattle.laws.specs.Shape.{Shaped, shaped}
@@ -13,7 +13,7 @@ use Rattle.book_rules.specs.Fine.{head_alone, shape_head}
 use Rattle.history.specs.World.{World, world_of, Legal, after_event, now, Lawful}
 use Rattle.history.specs.Items.{Item, call, foreign_step, preparation, preparation_over, salvage, salvage_over, Course, perform, foreign, prepared_by, preparing, salvaged_by, salvaging, next_item}
 use Rattle.history.specs.Events.{fits}
-use Rattle.history.specs.Salvages.{Came as Salvages-came, bad, full, done, came as salvage-came}
+use Rattle.history.specs.Salvages.{Came as Salvages-came, bad, full, done, came as salvage_came}
 use Rattle.history.specs.Courses.{foreign_kept}
 use Rattle.history.specs.Theorems.{lawful_always}
 

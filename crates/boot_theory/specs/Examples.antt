@@ -2,7 +2,7 @@
 -- number is used twice; then the same day with two, which meets the premises of `demand_2_over`; then what else the theorems say of such days.
 use Rattle.std.specs.Prelude.{ℕ, ◌≡◌, refl, List, [], ◌∷◌, true, false, ◌⊎◌, replicate}
 use Rattle.std.proofs.Common.{sym, ap, subst, inl, inr, arith}
-use Rattle.model.specs.Log.{by-caller, by-script, attempt-begun}
+use Rattle.model.specs.Log.{by_caller, by_script, attempt_begun}
 use Rattle.model.specs.Arena.{head_of, lease_of, hold_of, bit_at, owner_at, set_cell, is_free, is_held, state_of, state_at, is_live, is_in, head_fits, shape_fits, health_fits}
 use Rattle.model.specs.Refusals.{first}
 use Rattle.model.specs.Foreign.{step_take_of, step_release_of, step_of}
@@ -15,7 +15,7 @@ use Rattle.types.specs.declared.Lease.{Lease}
 use Rattle.types.specs.declared.Refusal.TheVariants.{NotHeld, StaleBoot}
 use Rattle.laws.specs.Lists.{zero_bit}
 use Rattle.history.specs.World.{World, world_of, Live, now, Spent}
-use Rattle.history.specs.Items.{try_acquire_lem, drop-lease, read-permission, perform, foreign, Item, call, foreign_step, preparation, salvage_over, Course, cold, preparing, salvaging, next_item, run}
+use Rattle.history.specs.Items.{try_acquire_lem, drop_lease, read_permission, perform, foreign, Item, call, foreign_step, preparation, salvage_over, Course, cold, preparing, salvaging, next_item, run}
 use Rattle.history.specs.Statements.{Begins, answers}
 use Rattle.history.specs.Tests.{differ}
 use Rattle.history.specs.Events.{lives}

@@ -19,7 +19,7 @@ use Rattle.book_rules.specs.declared.BookCheck.TheVariants as check
 use Rattle.book_rules.specs.declared.BookRefusal.{BookRefusal}
 use Rattle.book_rules.specs.declared.BookRefusal.TheVariants as fault
 use Rattle.history.specs.World.{World, now, Spent}
-use Rattle.history.specs.Items.{Call, drop-lease, Among, NamesLease, unchanged, perform, foreign, Item, call, foreign_step, preparation, preparation_over, salvage, salvage_over, Course, cold, preparing, next_item, run}
+use Rattle.history.specs.Items.{Call, drop_lease, Among, NamesLease, unchanged, perform, foreign, Item, call, foreign_step, preparation, preparation_over, salvage, salvage_over, Course, cold, preparing, next_item, run}
 use Rattle.history.specs.Statements.{Begins, Through, answers, buffer_in, Early, OneLease, Placed}
 use Rattle.history.specs.Callers.{ShapeFits}
 

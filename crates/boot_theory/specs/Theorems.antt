@@ -2,7 +2,7 @@
 use Rattle.std.specs.Prelude.{ℕ, ◌<◌, ◌≡◌, List, [], ◌∷◌, ◌++◌, Bool, true, false, not, length}
 use Rattle.std.proofs.Math.Path.{refl, sym, subst}
 use Rattle.std.proofs.Common.{ap, ◌∙◌, append_assoc, inl, inr, arith}
-use Rattle.model.specs.Log.{Made, Event, by-caller}
+use Rattle.model.specs.Log.{Made, Event, by_caller}
 use Rattle.model.specs.Arena.{lease_of, lease_live, hold_of, hold_in, leases_of, holds_of}
 use Rattle.model.specs.Calls.{drop_lease_of}
 use Rattle.model.specs.Checks.{count_in, bad_shape, lease_rules}
@@ -13,7 +13,7 @@ use Rattle.types.specs.declared.Check.TheVariants.{Fine}
 use Rattle.types.specs.declared.Lease.{Lease}
 use Rattle.laws.specs.Checks.{not_stale}
 use Rattle.history.specs.World.{World, now}
-use Rattle.history.specs.Items.{Call, Among, try_acquire_lem, drop-lease, read-permission, competing-acquire, release-then-handoff, foreign_release, drop-preserving, acquire_preserving, environment, try_lock_lem, transactional, acquire-bucket, release_all_lem, acquire_locks, acquire_sorted, crew, crew_at_work_lem, ByKeys, in_order, any_order, Says, perform, Item, call, foreign_step, Course, cold, next_item, run}
+use Rattle.history.specs.Items.{Call, Among, try_acquire_lem, drop_lease, read_permission, competing_acquire, release_then_handoff, foreign_release, drop_preserving, acquire_preserving, environment, try_lock_lem, transactional, acquire_bucket, release_all_lem, acquire_locks, acquire_sorted, crew, crew_at_work_lem, ByKeys, in_order, any_order, Says, perform, Item, call, foreign_step, Course, cold, next_item, run}
 use Rattle.history.specs.Statements.{HandsOver, Gives, answers, leaves, buffer_in, alone}
 use Rattle.history.specs.Theorems.{grant_is, buffer_is, given_live, handed_over, boot_stays, refused_unowned, stale_is_16}
 use Rattle.book_theory.specs.Theorems.{unowned_writes_nothing, stale_writes_nothing}

@@ -25,14 +25,14 @@ use retries::retry;
 use types::{Check, Flow, Found, Head, Outcome, Reason, Refusal, Run, ScriptReply, Tried};
 
 // A key as a caller names it: a binding, which is a place in the registry, and a bucket.
-#[derive(Drop)]
+#[derive(Clone, Copy)]
 struct Key {
     binding: u32,
     bucket: u32,
 }
 
 // What a key stands for, as long as the registry is lent: the header that it has there, and the bucket.
-#[derive(Drop)]
+#[derive(Clone, Copy)]
 struct Target {
     header: u32,
     bucket: u32,
@@ -49,7 +49,7 @@ fn target_of(registry: &[u32], key: Key) -> Target
 
 // An attempt of the retry loop. Why it was Busy stands beside what it came to: the loop tests the one and keeps the
 // other, and both stay in few words.
-#[derive(Drop)]
+#[derive(Clone, Copy)]
 struct Attempted {
     run: Run,
     outcome: Outcome,

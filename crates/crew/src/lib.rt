@@ -13,7 +13,7 @@ ghost use Rattle.crew.specs.Model.{place_of, try_move_of, make_move_of, take_tur
 use types::{Answer, Check, CrewReply, Flow, Head, Outcome, Refusal};
 
 // What a turn comes to; a take hands on the next serial and the one it took.
-#[derive(Drop)]
+#[derive(Clone, Copy)]
 pub enum Move {
     Idle,
     Took(u32, u32),
@@ -21,7 +21,7 @@ pub enum Move {
 }
 
 // What all turns come to, besides the table.
-#[derive(Drop)]
+#[derive(Clone, Copy)]
 pub struct Worked {
     pub next: u32,
     pub moving: usize,

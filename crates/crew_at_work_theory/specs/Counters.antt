@@ -5,7 +5,7 @@ use Rattle.std.proofs.Common.{◌∙◌, length-set}
 use mathlib.Core.List.{List, [], ◌∷◌, ◌++◌}
 use Rattle.std.proofs.Math.Bool.{true, false}
 use Rattle.choice.specs.Choice.{if◌then◌else◌}
-use Rattle.model.specs.Log.{Event, attempt-begun, boundary-run, yielded, spun, step-dropped, took, released, waiters_set, health_set, held_all_lem, added}
+use Rattle.model.specs.Log.{Event, attempt_begun, boundary_run, yielded, spun, step_dropped, took, released, waiters_set, health_set, held_all_lem, added}
 use Rattle.model.specs.Crew.{Work, summed_of, Crew, moved, is_full, added_to, turn_of, turns_of}
 use Rattle.types.specs.declared.Head.{Head}
 use Rattle.crew_theory.specs.Statements.{deeds_in, Turn, idled, grabbed, summed, gave}

@@ -10,7 +10,7 @@ use Rattle.std.proofs.Math.ListN.{get_or}
 use Rattle.std.proofs.Math.Seq.{get_or-set_same}
 use Rattle.std.proofs.lemmas.Bool.{lt-leb}
 use Rattle.choice.specs.Choice.{if◌then◌else◌}
-use Rattle.model.specs.Log.{Event, attempt-begun, boundary-run, yielded, spun, step-dropped, took, released, waiters_set, health_set, held_all_lem, added}
+use Rattle.model.specs.Log.{Event, attempt_begun, boundary_run, yielded, spun, step_dropped, took, released, waiters_set, health_set, held_all_lem, added}
 use Rattle.model.specs.Crew.{adds, count_of, Crew, moved, is_full, turn_of, turns_of, order_of}
 use Rattle.types.specs.declared.Head.{Head}
 use Rattle.crew_theory.specs.Statements.{In, filling, deeds_in, Turn, idled, grabbed, summed, gave}

@@ -6,7 +6,7 @@ use Rattle.std.proofs.Math.Path.{ap}
 use Rattle.std.proofs.Common.{eqb-true, eq-eqb}
 use Rattle.std.proofs.lemmas.Bool.{not-false}
 use Rattle.choice.specs.Choice.{if◌then◌else◌}
-use Rattle.model.specs.Log.{Made, attempt-begun, boundary-run, gives, note, ◌>>=◌, ◌>>◌}
+use Rattle.model.specs.Log.{Made, attempt_begun, boundary_run, gives, note, ◌>>=◌, ◌>>◌}
 use Rattle.model.specs.Arena.{header_of, is_poisoned, hold_of, waiters_at}
 use Rattle.model.specs.Foreign.{Setting, setting, protecting, flow_of, run_steps_of, boundary_of}
 use Rattle.model.specs.Lock.{take_of, locked_of, outcome_of, give_up_of, late_stage_of, after_take, second_stage_of, lock_of}

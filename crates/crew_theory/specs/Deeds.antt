@@ -5,7 +5,7 @@ use Rattle.std.proofs.Common.{sym, ◌∙◌, subst, arith, length-take, drop_of
 use mathlib.Core.List.{List, [], ◌∷◌, ◌++◌, append_assoc, append-nil}
 use Rattle.std.proofs.lemmas.Bool.{eqb-false}
 use Rattle.choice.specs.Choice.{if◌then◌else◌}
-use Rattle.model.specs.Log.{Event, by-caller, took, released, held_all_lem, added}
+use Rattle.model.specs.Log.{Event, by_caller, took, released, held_all_lem, added}
 use Rattle.model.specs.Crew.{Work, adds_of, moves_of, total, start_of, count_of, list_of, Crew, crew_start, moved, is_full, turn_of, turns_of}
 use Rattle.types.specs.declared.Head.{Head}
 use Rattle.laws.specs.Lists.{zeros}

@@ -3,7 +3,7 @@
 -- gives all by name.
 use Rattle.std.specs.Prelude.{ℕ, zero, suc, ◌+◌, ◌*◌, ◌-◌, ◌/◌, ◌≤◌, ◌<◌, ◌≡◌, List, [], ◌∷◌, ◌++◌, ◌⊎◌, eqb, length, get_or, set, take}
 use Rattle.choice.specs.Choice.{if◌then◌else◌}
-use Rattle.model.specs.Log.{Made, Event, by-caller, attempt-begun, boundary-run, yielded, spun, step-dropped, took, released, waiters_set, health_set, held_all_lem, added}
+use Rattle.model.specs.Log.{Made, Event, by_caller, attempt_begun, boundary_run, yielded, spun, step_dropped, took, released, waiters_set, health_set, held_all_lem, added}
 use Rattle.model.specs.Arena.{last_serial, cells_of, spent_to, waiters_at, set_cell, state_at}
 use Rattle.model.specs.Refusals.{first}
 use Rattle.model.specs.Crew.{Work, rests, adds, adds_of, moves_of, total, start_of, count_of, list_of, crew_rules, crew_at_work_rules, Crew, crew_at, crew_start, moved, is_full, noted_at, added_to, turn_of, turns_of, shift_of, crew_of, crew_at_work_of}

@@ -9,7 +9,7 @@ use native.Mathlib.Omega.{arith}
 use Rattle.std.proofs.Math.Dec.{ltb, eqb}
 use borrow.Author.Tests.{ltb-true, ltb-false, leb-true, leb-false, eqb-true, eq-eqb, ne_eqb, lt-ltb}
 use Rattle.choice.specs.Choice.{if◌then◌else◌}
-use Rattle.model.specs.Log.{Made, Event, by-caller, attempt-begun, boundary-run, yielded, spun, step-dropped, took, released, waiters_set, health_set, held_all_lem, added, note, gives, ◌>>◌, ◌>>=◌}
+use Rattle.model.specs.Log.{Made, Event, by_caller, attempt_begun, boundary_run, yielded, spun, step_dropped, took, released, waiters_set, health_set, held_all_lem, added, note, gives, ◌>>◌, ◌>>=◌}
 use Rattle.model.specs.Arena.{last_serial, waiters_at, state_at}
 use Rattle.model.specs.Foreign.{run_steps_of, boundary_of}
 use Rattle.model.specs.Lock.{take_of, late_stage_of, second_stage_of, lock_of}

@@ -18,7 +18,7 @@ use types::{Answer, Check, Counts, Flow, Head, Hold, Refusal, Run, ScriptReply, 
 
 // What the parts of a call are given and never change: the arena's sizes, its boot number, its number of cells, and the
 // number of steps of the script.
-#[derive(Drop)]
+#[derive(Clone, Copy)]
 pub struct Scope {
     pub headers: u32,
     pub buckets: u32,

@@ -2,7 +2,7 @@
 -- `World`, `Items` and `Statements` have the words they are made of, `Theorems` the proofs by name. What stands in quotes
 -- is of the work order, or of document 01 or 02.
 use Rattle.std.specs.Prelude.{ℕ, ◌+◌, ◌<◌, ◌≡◌, List, [], ◌∷◌, ◌++◌, ◌⊎◌, length}
-use Rattle.model.specs.Log.{Actor, Event, by-caller, attempt-begun, took, released}
+use Rattle.model.specs.Log.{Actor, Event, by_caller, attempt_begun, took, released}
 use Rattle.model.specs.Arena.{hold_of, holds_of}
 use Rattle.model.specs.Answers.{refusal_in}
 use Rattle.model.specs.Lock.{hold_at}
@@ -13,7 +13,7 @@ use Rattle.types.specs.declared.Lease.{Lease}
 use Rattle.types.specs.declared.Reason.{Reason}
 use Rattle.types.specs.declared.Refusal.{Refusal}
 use Rattle.history.specs.World.{World, Live, Healthy, now, Unreleased, number_of_lem, attempts, takes}
-use Rattle.history.specs.Items.{Call, try_acquire_lem, drop-lease, read-permission, competing-acquire, release-then-handoff, foreign_release, drop-preserving, acquire_preserving, environment, try_lock_lem, transactional, acquire-bucket, release_all_lem, acquire_locks, acquire_sorted, crew, crew_at_work_lem, IsCrew, ByKeys, asked, key_cell, Build, Entry, events_of, history_of}
+use Rattle.history.specs.Items.{Call, try_acquire_lem, drop_lease, read_permission, competing_acquire, release_then_handoff, foreign_release, drop_preserving, acquire_preserving, environment, try_lock_lem, transactional, acquire_bucket, release_all_lem, acquire_locks, acquire_sorted, crew, crew_at_work_lem, IsCrew, ByKeys, asked, key_cell, Build, Entry, events_of, history_of}
 use Rattle.history.specs.Statements.{Through, answer_in_lem, buffer_in, world_in, HandsOver, Gives, NothingHeld}
 
 -- ---- one call, whatever the arena holds

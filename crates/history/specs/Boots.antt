@@ -25,7 +25,7 @@ use Rattle.types.specs.declared.Refusal.{Refusal}
 use Rattle.types.specs.declared.Refusal.TheVariants.{BadBinding, StaleBoot}
 use Rattle.laws.specs.Checks.{or_else, first_append, first_hit, first_skip, fine_rest, fine_append, lease_in, lease_later, leases_at, leases_end}
 use Rattle.history.specs.World.{World}
-use Rattle.history.specs.Items.{Call, Says, unchanged, try_acquire_lem, drop-lease, read-permission, competing-acquire, release-then-handoff, foreign_release, drop-preserving, acquire_preserving, environment, try_lock_lem, transactional, acquire-bucket, release_all_lem, acquire_locks, acquire_sorted, crew, crew_at_work_lem, Among, NamesLease, Clear, rules, perform, foreign}
+use Rattle.history.specs.Items.{Call, Says, unchanged, try_acquire_lem, drop_lease, read_permission, competing_acquire, release_then_handoff, foreign_release, drop_preserving, acquire_preserving, environment, try_lock_lem, transactional, acquire_bucket, release_all_lem, acquire_locks, acquire_sorted, crew, crew_at_work_lem, Among, NamesLease, Clear, rules, perform, foreign}
 use Rattle.history.specs.Statements.{answers, log_of, Early, BootStays, BootStaysAlone, RefusedUnowned, RefusedStale, OneLease, Beside, releases_between, drops_beside, Listed, beside_release, beside_drop, beside_acquire, in_environment, in_lock, in_attempt, in_attempts, in_locks, in_sorted, to_release, scripted, keyed, held_before, Placed, alone, beside, listed, NamesPlaced, StaleIs16}
 use Rattle.history.specs.Tests.{differ}
 use Rattle.history.specs.Logs.{boot_now}

@@ -35,7 +35,7 @@ use Rattle.laws.specs.Checks.{lease_in}
 use Rattle.laws.specs.Lists.{length_words, words_back}
 use Rattle.laws.specs.Outcomes.{Comes, granted, busy, poisoned, damaged, spent, lock_comes}
 use Rattle.history.specs.World.{World}
-use Rattle.history.specs.Items.{Call, Says, try_acquire_lem, drop-lease, read-permission, competing-acquire, release-then-handoff, foreign_release, drop-preserving, acquire_preserving, environment, try_lock_lem, transactional, acquire-bucket, release_all_lem, acquire_locks, acquire_sorted, crew, crew_at_work_lem, perform, asked, cell_of, key_cell}
+use Rattle.history.specs.Items.{Call, Says, try_acquire_lem, drop_lease, read_permission, competing_acquire, release_then_handoff, foreign_release, drop_preserving, acquire_preserving, environment, try_lock_lem, transactional, acquire_bucket, release_all_lem, acquire_locks, acquire_sorted, crew, crew_at_work_lem, perform, asked, cell_of, key_cell}
 use Rattle.history.specs.Statements.{GrantIs}
 use Rattle.history.specs.Tests.{words_boot}
 use Rattle.history.specs.Judged.{acting, past_checks, performed, judged_at}

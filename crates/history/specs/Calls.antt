@@ -6,7 +6,7 @@ use mathlib.Core.List.{List, [], ◌∷◌, ◌++◌, append-nil, map}
 use Rattle.std.proofs.Math.Decide.{dec_lt}
 use Rattle.std.proofs.Math.Seq.{append_snoc}
 use borrow.Author.Tests.{leb-false, not-false}
-use Rattle.model.specs.Log.{Made, by-caller, attempt-begun, released, Event}
+use Rattle.model.specs.Log.{Made, by_caller, attempt_begun, released, Event}
 use Rattle.model.specs.Arena.{cells_of, shape_fits, set_cell, hold_in, is_live, is_in, leases_of, holds_of}
 use Rattle.model.specs.Foreign.{flow_of}
 use Rattle.model.specs.Lock.{hold_at, no_hold, answer_of, settled, attempt_limit, none_yet}
@@ -21,7 +21,7 @@ use Rattle.types.specs.declared.Outcome.{Outcome}
 use Rattle.laws.specs.Shape.{shaped}
 use Rattle.laws.specs.Lists.{holds_are, as_many}
 use Rattle.history.specs.World.{World, world_of, cells, Live, Lawful, Unreleased, now}
-use Rattle.history.specs.Items.{Call, Says, try_acquire_lem, drop-lease, read-permission, competing-acquire, release-then-handoff, foreign_release, drop-preserving, acquire_preserving, environment, try_lock_lem, transactional, acquire-bucket, release_all_lem, acquire_locks, acquire_sorted, crew, crew_at_work_lem, perform, held_of, Clear, rules}
+use Rattle.history.specs.Items.{Call, Says, try_acquire_lem, drop_lease, read_permission, competing_acquire, release_then_handoff, foreign_release, drop_preserving, acquire_preserving, environment, try_lock_lem, transactional, acquire_bucket, release_all_lem, acquire_locks, acquire_sorted, crew, crew_at_work_lem, perform, held_of, Clear, rules}
 use Rattle.history.specs.Statements.{HandsOver, HeldLive, log_of}
 use Rattle.history.specs.Tests.{differ, In, in_take}
 use Rattle.history.specs.Events.{Fit, lives, good}

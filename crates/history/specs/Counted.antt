@@ -5,7 +5,7 @@ use mathlib.Core.List.{List, [], ◌∷◌, ◌++◌}
 use Rattle.std.proofs.Math.Bool.{not}
 use Rattle.std.proofs.Common.{arith}
 use Rattle.std.proofs.Math.Dec.{leb}
-use Rattle.model.specs.Log.{Made, Event, attempt-begun, yielded, released, by-caller, note, ◌>>◌}
+use Rattle.model.specs.Log.{Made, Event, attempt_begun, yielded, released, by_caller, note, ◌>>◌}
 use Rattle.model.specs.Arena.{serial_remains, header_of, is_poisoned, bit_at, owner_at, waiters_at, set_cell, state_at, is_free, is_live, is_in, hold_of}
 use Rattle.model.specs.Foreign.{Setting, protecting, steps_in, kind_at, place_at, number_at, flow_of, step_take_of, step_release_of, step_waiters_of, step_health_of, step_of, run_steps_of, boundary_of}
 use Rattle.model.specs.Lock.{take_in, take_of, after_take, late_stage_of, second_stage_of, lock_of, run_of, find_of, attempt_at, attempt_of, spin_of, pause_of, is_busy, retry_of, hold_at, give_back_of, rollback_of, after_key, binding_at, bucket_at, attempt_limit, none_yet, Locks, locks_of}

@@ -1,7 +1,7 @@
 -- The counts of each call's reply are the numbers of such events in its log.
 use Rattle.std.specs.Prelude.{ℕ, ◌+◌, ◌≡◌, refl, List, [], ◌∷◌, length}
 use Rattle.std.proofs.Common.{arith}
-use Rattle.model.specs.Log.{Made, by-caller, attempt-begun, released}
+use Rattle.model.specs.Log.{Made, by_caller, attempt_begun, released}
 use Rattle.model.specs.Arena.{holds_of, set_cell}
 use Rattle.model.specs.Foreign.{flow_of}
 use Rattle.model.specs.Lock.{attempt_limit, none_yet}
@@ -11,7 +11,7 @@ use Rattle.model.specs.Sorted.{cells_sorted, sorted_keys, first_key}
 use Rattle.types.specs.declared.Counts.{Counts}
 use Rattle.types.specs.declared.Head.{Head}
 use Rattle.history.specs.World.{World, number_of_lem, attempts, boundaries, yields, drops}
-use Rattle.history.specs.Items.{Call, Says, try_acquire_lem, drop-lease, read-permission, competing-acquire, release-then-handoff, foreign_release, drop-preserving, acquire_preserving, environment, try_lock_lem, transactional, acquire-bucket, release_all_lem, acquire_locks, acquire_sorted, crew, crew_at_work_lem, IsCrew, perform}
+use Rattle.history.specs.Items.{Call, Says, try_acquire_lem, drop_lease, read_permission, competing_acquire, release_then_handoff, foreign_release, drop_preserving, acquire_preserving, environment, try_lock_lem, transactional, acquire_bucket, release_all_lem, acquire_locks, acquire_sorted, crew, crew_at_work_lem, IsCrew, perform}
 use Rattle.history.specs.Statements.{CountsAre}
 use Rattle.history.specs.Judged.{judged_at, acting, past_checks, performed}
 use Rattle.history.specs.Counted.{Counted, then_counted, none_counted, boundary_counted, take_counted, lock_counted, attempt_counted, retry_counted, back_counted, locks_counted}

@@ -25,7 +25,7 @@ use Rattle.history.specs.Events.{Good, fit, lives, whole, counts}
 use Rattle.history.specs.Logs.{now_append, lawful_append, lawful_split, good_now, apart_now, arena_now, next_now, bits_now, keep_now, spent_now, Kept, ended, nothing}
 use Rattle.history.specs.Steps.{step_kept}
 use Rattle.history.specs.Calls.{call_kept}
-use Rattle.history.specs.Salvages.{Came as Salvages-came, bad, full, done, came as salvage-came, mended_good}
+use Rattle.history.specs.Salvages.{Came as Salvages-came, bad, full, done, came as salvage_came, mended_good}
 
 -- ---- a lone foreign step
 

@@ -10,7 +10,7 @@ use Rattle.std.proofs.Math.ListN.{get_or, get_or-eq_default}
 use Rattle.std.proofs.lemmas.List.{length-replicate}
 use borrow.Author.Tests.{ltb-true, ltb-false, leb-false}
 use Rattle.choice.specs.Choice.{if◌then◌else◌}
-use Rattle.model.specs.Log.{Made, Event, by-caller, attempt-begun, boundary-run, released, held_all_lem, added, note, gives, ◌>>◌}
+use Rattle.model.specs.Log.{Made, Event, by_caller, attempt_begun, boundary_run, released, held_all_lem, added, note, gives, ◌>>◌}
 use Rattle.model.specs.Arena.{cells_of, header_of, is_poisoned, hold_of, set_cell, waiters_at, is_in}
 use Rattle.model.specs.Foreign.{flow_of, run_steps_of, boundary_of}
 use Rattle.model.specs.Lock.{take_of, late_stage_of, after_take, second_stage_of, lock_of}

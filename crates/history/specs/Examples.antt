@@ -2,7 +2,7 @@
 -- registry 0, 1, 1, first serial 1, boot number 6.
 use Rattle.std.specs.Prelude.{ℕ, suc, zero, ◌+◌, ◌≤◌, ◌<◌, ◌≡◌, refl, List, [], ◌∷◌, ◌++◌, true, replicate}
 use Rattle.std.proofs.Common.{sym, ap, ◌∙◌, subst, inl, inr, arith}
-use Rattle.model.specs.Log.{Made, Event, by-caller, by-script, attempt-begun, boundary-run, took, released, waiters_set, health_set, Actor, step-dropped}
+use Rattle.model.specs.Log.{Made, Event, by_caller, by_script, attempt_begun, boundary_run, took, released, waiters_set, health_set, Actor, step_dropped}
 use Rattle.model.specs.Arena.{head_of, lease_of, is_stale, hold_of, bit_at, owner_at, waiters_at, set_cell, set_waiters, is_free, is_held, state_of, state_at, is_live, leases_of, holds_of, words_of, same_hold, is_in, head_fits, shape_fits, health_fits, registry_fits}
 use Rattle.model.specs.Refusals.{Rule, first}
 use Rattle.model.specs.Answers.{refusal_in}
@@ -22,7 +22,7 @@ use Rattle.types.specs.declared.Refusal.{Refusal}
 use Rattle.types.specs.declared.Refusal.TheVariants.{StaleBoot, Poisoned, InvalidBucket, NotHeld, BadCrew, Damaged, BadShape}
 use Rattle.types.specs.declared.SalvageAnswer.TheVariants as salvaged
 use Rattle.history.specs.World.{World, world_of, Live, Healthy, now, Sound, Spent, Unreleased, number_of_lem, takes}
-use Rattle.history.specs.Items.{Call, Says, salvage, salvaging, acquire-bucket, try_lock_lem, drop-lease, competing-acquire, drop-preserving, release_all_lem, acquire_locks, environment, try_acquire_lem, perform, foreign, Item, call, foreign_step, preparation, Course, course_of, cold, next_item, run, preparing, held_of, Entry, noted, preparation_over, entry_of, events_of, history_of, saying, says}
+use Rattle.history.specs.Items.{Call, Says, salvage, salvaging, acquire_bucket, try_lock_lem, drop_lease, competing_acquire, drop_preserving, release_all_lem, acquire_locks, environment, try_acquire_lem, perform, foreign, Item, call, foreign_step, preparation, Course, course_of, cold, next_item, run, preparing, held_of, Entry, noted, preparation_over, entry_of, events_of, history_of, saying, says}
 use Rattle.history.specs.Statements.{drops_beside, to_release, Placed, alone, beside, listed, Begins, Fresh, Ledger, other_runs, answers, leaves, log_of, HandsOver, RolledBack, buffer_in, Fails}
 use Rattle.history.specs.Reasons.{TakesNothing}
 use Rattle.history.specs.Callers.{singles}

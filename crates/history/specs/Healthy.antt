@@ -8,7 +8,7 @@ use Rattle.std.proofs.Math.Logic.{inl, inr}
 use Rattle.std.proofs.Math.Decide.{ℕ_discrete}
 use Rattle.std.proofs.Math.ListN.{length-append, get_or-append}
 use Rattle.std.proofs.Math.Seq.{get_or-append_seam}
-use Rattle.model.specs.Log.{Made, Event, by-caller, attempt-begun, took}
+use Rattle.model.specs.Log.{Made, Event, by_caller, attempt_begun, took}
 use Rattle.model.specs.Arena.{hold_in, header_of, hold_of, holds_of, lease_under}
 use Rattle.model.specs.Answers.{refusal_in}
 use Rattle.model.specs.Foreign.{Setting, protecting, flow_of}
@@ -32,7 +32,7 @@ use Rattle.choice.specs.Pick.{if_both}
 use Rattle.laws.specs.Outcomes.{Comes, granted, busy, poisoned, damaged, spent, lock_comes}
 use Rattle.laws.specs.Lists.{words_back}
 use Rattle.history.specs.World.{World, Healthy, now, attempts, number_of_lem}
-use Rattle.history.specs.Items.{Call, try_acquire_lem, drop-lease, read-permission, competing-acquire, release-then-handoff, foreign_release, drop-preserving, acquire_preserving, environment, try_lock_lem, transactional, acquire-bucket, release_all_lem, acquire_locks, acquire_sorted, crew, crew_at_work_lem, perform}
+use Rattle.history.specs.Items.{Call, try_acquire_lem, drop_lease, read_permission, competing_acquire, release_then_handoff, foreign_release, drop_preserving, acquire_preserving, environment, try_lock_lem, transactional, acquire_bucket, release_all_lem, acquire_locks, acquire_sorted, crew, crew_at_work_lem, perform}
 use Rattle.history.specs.Statements.{answers, log_of, Fails}
 use Rattle.history.specs.Answers.{ReadsAgain, GrantedHealthy, GrantPoint, LocksHealthy, PoisonedHoldsNothing}
 use Rattle.history.specs.Events.{Fit}

@@ -4,7 +4,7 @@ use Rattle.std.proofs.Common.{sym, ap, ◌∙◌, arith}
 use Rattle.std.proofs.Math.Path.{subst}
 use mathlib.Core.List.{List, [], ◌∷◌, ◌++◌, append-nil}
 use Rattle.choice.specs.Choice.{if◌then◌else◌}
-use Rattle.model.specs.Log.{Made, by-caller, attempt-begun, released, gives, note, ◌>>=◌, ◌>>◌}
+use Rattle.model.specs.Log.{Made, by_caller, attempt_begun, released, gives, note, ◌>>=◌, ◌>>◌}
 use Rattle.model.specs.Arena.{spent_to, set_cell, holds_of}
 use Rattle.model.specs.Refusals.{Rule, refusal_of, first, judge}
 use Rattle.model.specs.Foreign.{Setting, flow_of, boundary_of}
@@ -23,7 +23,7 @@ use Rattle.types.specs.declared.ScriptReply.{ScriptReply}
 use Rattle.types.specs.declared.Refusal.{Refusal}
 use Rattle.types.specs.declared.Reply.{Reply}
 use Rattle.history.specs.World.{World, world_of}
-use Rattle.history.specs.Items.{Call, Says, says, try_acquire_lem, drop-lease, read-permission, competing-acquire, release-then-handoff, foreign_release, drop-preserving, acquire_preserving, environment, try_lock_lem, transactional, acquire-bucket, release_all_lem, acquire_locks, acquire_sorted, crew, crew_at_work_lem, unchanged, unchanged_at, perform, script_of_lem, held_of, Clear, rules}
+use Rattle.history.specs.Items.{Call, Says, says, try_acquire_lem, drop_lease, read_permission, competing_acquire, release_then_handoff, foreign_release, drop_preserving, acquire_preserving, environment, try_lock_lem, transactional, acquire_bucket, release_all_lem, acquire_locks, acquire_sorted, crew, crew_at_work_lem, unchanged, unchanged_at, perform, script_of_lem, held_of, Clear, rules}
 
 -- ---- checks that found nothing
 

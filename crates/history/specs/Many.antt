@@ -7,7 +7,7 @@ use mathlib.Core.List.{List, [], ◌∷◌, ◌++◌}
 use Rattle.std.proofs.Math.Decide.{ℕ_discrete}
 use Rattle.std.proofs.Math.ListN.{length, take, get_or-append}
 use Rattle.std.proofs.Math.Seq.{take-length, get_or-append_seam}
-use Rattle.model.specs.Log.{by-caller, released}
+use Rattle.model.specs.Log.{by_caller, released}
 use Rattle.model.specs.Arena.{set_cell}
 use Rattle.model.specs.Foreign.{boundary_of}
 use Rattle.model.specs.Lock.{run_of, no_hold, hold_at, give_back_of, Locks, rollback_of, after_key, attempt_limit, none_yet, binding_at, bucket_at, retry_of, locks_of}

@@ -10,7 +10,7 @@ use Rattle.std.proofs.Math.Seq.{take-length}
 use borrow.Author.Tests.{eqb-true}
 use Rattle.history.specs.Crew.{crew_plan, crew_at_work_plan}
 use Rattle.model.specs.Crew.{rests, adds}
-use Rattle.model.specs.Log.{Made, Actor, Event, by-script, attempt-begun, boundary-run, yielded, spun, step-dropped, took, released, waiters_set, health_set, held_all_lem, added}
+use Rattle.model.specs.Log.{Made, Actor, Event, by_script, attempt_begun, boundary_run, yielded, spun, step_dropped, took, released, waiters_set, health_set, held_all_lem, added}
 use Rattle.model.specs.Arena.{hold_in, hold_of, holds_of, is_in, set_cell, serial_remains, bit_at, owner_at, is_free, is_live}
 use Rattle.model.specs.Foreign.{Setting, flow_of, step_take_of, step_release_of, step_waiters_of, step_health_of, step_of}
 use Rattle.model.specs.Lock.{no_hold, hold_at, attempt_limit, none_yet}
@@ -22,7 +22,7 @@ use Rattle.types.specs.declared.Hold.{Hold}
 use Rattle.types.specs.declared.Stepped.{Stepped}
 use Rattle.choice.specs.Pick.{if_both}
 use Rattle.history.specs.World.{World}
-use Rattle.history.specs.Items.{Call, Says, try_acquire_lem, drop-lease, read-permission, competing-acquire, release-then-handoff, foreign_release, drop-preserving, acquire_preserving, environment, try_lock_lem, transactional, acquire-bucket, release_all_lem, acquire_locks, acquire_sorted, crew, crew_at_work_lem, script_of_lem, place_of, given_up, foreign, perform, Clear, rules}
+use Rattle.history.specs.Items.{Call, Says, try_acquire_lem, drop_lease, read_permission, competing_acquire, release_then_handoff, foreign_release, drop_preserving, acquire_preserving, environment, try_lock_lem, transactional, acquire_bucket, release_all_lem, acquire_locks, acquire_sorted, crew, crew_at_work_lem, script_of_lem, place_of, given_up, foreign, perform, Clear, rules}
 use Rattle.history.specs.Statements.{log_of, Named, NamedAlone}
 use Rattle.history.specs.Tests.{in_take, if_cases}
 use Rattle.history.specs.Judged.{judged_at, acting, past_checks, performed}

@@ -2,7 +2,7 @@
 use Rattle.std.specs.Prelude.{ℕ, ◌<◌, ◌≡◌, refl, List, [], ◌∷◌, ◌++◌, Bool, true, false, ◌&&◌, ltb, length}
 use Rattle.std.proofs.Common.{sym, ap, ◌∙◌, subst, append-nil, append_assoc, arith, ltb-true, leb-false, lt-ltb, le-leb, eq-eqb}
 use Rattle.std.proofs.lemmas.Bool.{lt-leb, not-false}
-use Rattle.model.specs.Log.{Made, Event, by-caller, by-script, attempt-begun, boundary-run, yielded, spun, step-dropped, took, released, waiters_set, health_set, held_all_lem, added}
+use Rattle.model.specs.Log.{Made, Event, by_caller, by_script, attempt_begun, boundary_run, yielded, spun, step_dropped, took, released, waiters_set, health_set, held_all_lem, added}
 use Rattle.model.specs.Arena.{lease_of, hold_in, last_serial, serial_remains, spent_to, hold_of, bit_at, owner_at, is_free, is_live, is_in, state_at}
 use Rattle.model.specs.Refusals.{first}
 use Rattle.model.specs.Foreign.{step_take_of, step_release_of, step_waiters_of, step_health_of, step_of}
@@ -17,7 +17,7 @@ use Rattle.types.specs.declared.Stepped.{Stepped}
 use Rattle.types.specs.declared.Took.{Took}
 use Rattle.choice.specs.Pick.{both}
 use Rattle.history.specs.World.{World, world_of, cells, Free, Live, Legal, after_event, now, Lawful}
-use Rattle.history.specs.Items.{Says, says, try_acquire_lem, drop-lease, perform, foreign, Item, Course, next_item, run, Call, cold, foreign_step, history_of, call, noted, saying, entry_of}
+use Rattle.history.specs.Items.{Says, says, try_acquire_lem, drop_lease, perform, foreign, Item, Course, next_item, run, Call, cold, foreign_step, history_of, call, noted, saying, entry_of}
 use Rattle.history.specs.Statements.{answers, leaves, log_of}
 use Rattle.history.specs.Callers.{ShapeFits, TakesAlike, TakeIsCall, ReleasesAlike, ReleaseIsCall, single, singles, replay, replays, BySingleCalls, HistoriesSingle, DoneSingly}
 use Rattle.history.specs.Tests.{differ, free_words, is_free_state, if_cases}

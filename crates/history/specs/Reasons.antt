@@ -1,7 +1,7 @@
 -- Why it is Busy, as statements (document 02, L1): what each reason says of the cell, at the moment at which it was seen. `World`, `Items` and
 -- `Statements` have the words they are made of, `Theorems` the proofs by name. What stands in quotes is of document 02.
 use Rattle.std.specs.Prelude.{ℕ, ◌≡◌, List, [], ◌∷◌, ◌++◌, ◌↔◌}
-use Rattle.model.specs.Log.{Made, Event, by-caller, took, released}
+use Rattle.model.specs.Log.{Made, Event, by_caller, took, released}
 use Rattle.model.specs.Arena.{hold_of, waiters_at, state_at}
 use Rattle.types.specs.declared.Answer.TheVariants.{Busy}
 use Rattle.types.specs.declared.Lease.{Lease}
@@ -9,7 +9,7 @@ use Rattle.types.specs.declared.Reason.{Reason}
 use Rattle.types.specs.declared.Reason.TheVariants.{Held, Before, After}
 use Rattle.types.specs.declared.State.TheVariants as state
 use Rattle.history.specs.World.{World, Live, Healthy, now, Whole, Spent}
-use Rattle.history.specs.Items.{Call, try_acquire_lem, drop-lease, read-permission, competing-acquire, release-then-handoff, foreign_release, drop-preserving, acquire_preserving, environment, try_lock_lem, transactional, acquire-bucket, release_all_lem, acquire_locks, acquire_sorted, crew, crew_at_work_lem, asked, Says, Build}
+use Rattle.history.specs.Items.{Call, try_acquire_lem, drop_lease, read_permission, competing_acquire, release_then_handoff, foreign_release, drop_preserving, acquire_preserving, environment, try_lock_lem, transactional, acquire_bucket, release_all_lem, acquire_locks, acquire_sorted, crew, crew_at_work_lem, asked, Says, Build}
 use Rattle.history.specs.Statements.{answer_in_lem, world_in}
 
 -- the calls that make one attempt to lock one cell, with boundaries

@@ -31,7 +31,7 @@ use Rattle.types.specs.declared.Tried.{Tried}
 use Rattle.choice.specs.Pick.{if_both}
 use Rattle.laws.specs.Outcomes.{Comes, granted, busy, poisoned, damaged, spent, lock_comes}
 use Rattle.history.specs.World.{World}
-use Rattle.history.specs.Items.{Call, Says, unchanged, try_acquire_lem, drop-lease, read-permission, competing-acquire, release-then-handoff, foreign_release, drop-preserving, acquire_preserving, environment, try_lock_lem, transactional, acquire-bucket, release_all_lem, acquire_locks, acquire_sorted, crew, crew_at_work_lem, ByCell, perform}
+use Rattle.history.specs.Items.{Call, Says, unchanged, try_acquire_lem, drop_lease, read_permission, competing_acquire, release_then_handoff, foreign_release, drop_preserving, acquire_preserving, environment, try_lock_lem, transactional, acquire_bucket, release_all_lem, acquire_locks, acquire_sorted, crew, crew_at_work_lem, ByCell, perform}
 use Rattle.history.specs.Statements.{Early, ChangesNothing, CrewRefused, nobody_moved, CrewAtWorkRefused}
 use Rattle.history.specs.Judged.{judged, judged_at, acting, sorted_locks, past_checks, performed}
 

@@ -3,7 +3,7 @@ use Rattle.std.specs.Prelude.{ℕ, zero, suc, ◌+◌, ◌<◌, ◌≡◌, refl,
 use Rattle.std.proofs.Common.{sym, subst, ◌∙◌, inr, arith}
 use Rattle.std.proofs.Math.Logic.{inl}
 use Rattle.std.proofs.lemmas.Bool.{not-false}
-use Rattle.model.specs.Log.{Made, Event, by-caller, attempt-begun, took, released}
+use Rattle.model.specs.Log.{Made, Event, by_caller, attempt_begun, took, released}
 use Rattle.model.specs.Arena.{cells_of, hold_in, bit_at, owner_at, is_live, state_at, set_cell, holds_of, hold_of}
 use Rattle.model.specs.Foreign.{Setting, protecting, flow_of}
 use Rattle.model.specs.Lock.{take_of, outcome_of, answer_of, settled, attempt_limit, none_yet, retry_of, binding_at, bucket_at, rollback_of, after_key, locks_of}
@@ -20,7 +20,7 @@ use Rattle.types.specs.declared.Reply.{Reply}
 use Rattle.types.specs.declared.Run.{Run}
 use Rattle.laws.specs.Words.{Seen, here, there, see}
 use Rattle.history.specs.World.{World, cells, Live, after_event, now, Lawful}
-use Rattle.history.specs.Items.{Call, Says, try_acquire_lem, drop-lease, read-permission, competing-acquire, release-then-handoff, foreign_release, drop-preserving, acquire_preserving, environment, try_lock_lem, transactional, acquire-bucket, release_all_lem, acquire_locks, acquire_sorted, crew, crew_at_work_lem, perform, IsCrew, buffer, Clear, rules}
+use Rattle.history.specs.Items.{Call, Says, try_acquire_lem, drop_lease, read_permission, competing_acquire, release_then_handoff, foreign_release, drop_preserving, acquire_preserving, environment, try_lock_lem, transactional, acquire_bucket, release_all_lem, acquire_locks, acquire_sorted, crew, crew_at_work_lem, perform, IsCrew, buffer, Clear, rules}
 use Rattle.history.specs.Statements.{HandsOver, answers, log_of, NothingKept, leaves, GivenBack, Gives, NothingNew, buffer_in, Fails}
 use Rattle.history.specs.Tests.{alive, state_held, Alive}
 use Rattle.history.specs.Events.{Fit, fit_after, lives, next_after, live_before, at}

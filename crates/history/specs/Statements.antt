@@ -2,7 +2,7 @@
 -- their proofs by name. What stands in quotes is of the work order or of document 01 or 02. A statement about one call is one of any build, any
 -- function that answers calls: `Theorems` proves it of ours, `perform`, and crate `pinned` carries it to any build that does what is asked of each call.
 use Rattle.std.specs.Prelude.{ℕ, ◌+◌, ◌*◌, ◌≤◌, ◌<◌, ◌≡◌, List, [], ◌∷◌, ◌++◌, reverse, true, ◌⊎◌, ◌↔◌, length, take, replicate}
-use Rattle.model.specs.Log.{Made, Actor, Event, by-caller, by-script, took, released}
+use Rattle.model.specs.Log.{Made, Actor, Event, by_caller, by_script, took, released}
 use Rattle.model.specs.Arena.{head_of, is_stale, lease_live, hold_of, hold_in, leases_of, holds_of, is_in}
 use Rattle.model.specs.Refusals.{Rule, number_of, first}
 use Rattle.model.specs.Foreign.{steps_in, kind_at, place_at, number_at}
@@ -21,7 +21,7 @@ use Rattle.types.specs.declared.Refusal.TheVariants.{StaleBoot}
 use Rattle.types.specs.declared.Check.TheVariants.{Fine}
 use Rattle.laws.specs.Checks.{lease_in}
 use Rattle.history.specs.World.{World, world_of, cells, Live, now, Lawful, Sound, Spent, Unreleased, caller_releases, bits, number_of_lem, attempts, boundaries, yields, drops, takes, releases, Whole, Apart}
-use Rattle.history.specs.Items.{Call, try_acquire_lem, drop-lease, read-permission, competing-acquire, release-then-handoff, foreign_release, drop-preserving, acquire_preserving, environment, try_lock_lem, transactional, acquire-bucket, release_all_lem, acquire_locks, acquire_sorted, crew, crew_at_work_lem, NamesLease, ByKeys, script_of_lem, place_of, held_of, given_up, buffer, ByCell, IsCrew, asked, key_cell, Says, unchanged, saying, perform, Build, Stepper, Item, preparation, Course, cold, noted, history_of, preparing, next_item, run, call, foreign_step, preparation_over, salvage, salvage_over, salvaging}
+use Rattle.history.specs.Items.{Call, try_acquire_lem, drop_lease, read_permission, competing_acquire, release_then_handoff, foreign_release, drop_preserving, acquire_preserving, environment, try_lock_lem, transactional, acquire_bucket, release_all_lem, acquire_locks, acquire_sorted, crew, crew_at_work_lem, NamesLease, ByKeys, script_of_lem, place_of, held_of, given_up, buffer, ByCell, IsCrew, asked, key_cell, Says, unchanged, saying, perform, Build, Stepper, Item, preparation, Course, cold, noted, history_of, preparing, next_item, run, call, foreign_step, preparation_over, salvage, salvage_over, salvaging}
 use Rattle.types.specs.declared.SalvageAnswer.TheVariants as salvaged
 
 -- ---- where a stretch of a history begins: "Demand 2 now starts from a prepared or a salvaged table."

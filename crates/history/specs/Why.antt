@@ -8,7 +8,7 @@ use Rattle.std.proofs.Math.Dec.{eqb}
 use borrow.Author.Tests.{eqb-true, eqb-false}
 use Rattle.choice.specs.Choice.{if◌then◌else◌}
 use Rattle.choice.specs.Pick.{if_both}
-use Rattle.model.specs.Log.{Made, Event, by-caller, attempt-begun, took, released, gives}
+use Rattle.model.specs.Log.{Made, Event, by_caller, attempt_begun, took, released, gives}
 use Rattle.model.specs.Arena.{lease_of, serial_remains, header_of, hold_of, waiters_at, state_at}
 use Rattle.model.specs.Foreign.{Setting, protecting, flow_of, boundary_of}
 use Rattle.model.specs.Lock.{take_in, take_of, locked_of, give_up_of, late_stage_of, after_take, second_stage_of, lock_of, answer_of, find_of, attempt_at, attempt_of}
@@ -29,7 +29,7 @@ use Rattle.types.specs.declared.State.TheVariants as state
 use Rattle.types.specs.declared.Took.{Took}
 use Rattle.laws.specs.Words.{waiters_set_cell}
 use Rattle.history.specs.World.{World, caller_releases}
-use Rattle.history.specs.Items.{Call, try_acquire_lem, drop-lease, read-permission, competing-acquire, release-then-handoff, foreign_release, drop-preserving, acquire_preserving, environment, try_lock_lem, transactional, acquire-bucket, release_all_lem, acquire_locks, acquire_sorted, crew, crew_at_work_lem, cell_of, asked, perform, Says}
+use Rattle.history.specs.Items.{Call, try_acquire_lem, drop_lease, read_permission, competing_acquire, release_then_handoff, foreign_release, drop_preserving, acquire_preserving, environment, try_lock_lem, transactional, acquire_bucket, release_all_lem, acquire_locks, acquire_sorted, crew, crew_at_work_lem, cell_of, asked, perform, Says}
 use Rattle.history.specs.Statements.{answer_in_lem, world_in}
 use Rattle.history.specs.Steps.{With}
 use Rattle.history.specs.Rollback.{Foreigner, Every, end, also, every_append, boundary_foreign, still_then}

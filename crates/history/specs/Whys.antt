@@ -3,7 +3,7 @@ use Rattle.std.specs.Prelude.{ℕ, ◌*◌, ◌≤◌, ◌<◌, ◌≡◌, refl,
 use Rattle.std.proofs.Common.{sym, ap, ◌∙◌, subst, append_assoc, inl, inr, arith, ltb-true, ltb-false}
 use Rattle.std.proofs.Math.ListN.{get_or-eq_default}
 use Rattle.std.proofs.lemmas.Bool.{not-false}
-use Rattle.model.specs.Log.{Event, by-caller, by-script, attempt-begun, boundary-run, yielded, spun, step-dropped, took, released, waiters_set, health_set, held_all_lem, added}
+use Rattle.model.specs.Log.{Event, by_caller, by_script, attempt_begun, boundary_run, yielded, spun, step_dropped, took, released, waiters_set, health_set, held_all_lem, added}
 use Rattle.model.specs.Arena.{hold_in, header_of, hold_of, bit_at, owner_at, waiters_at, state_at, is_live}
 use Rattle.model.specs.Lock.{take_of}
 use Rattle.model.specs.Checks.{lease_rules}
@@ -16,7 +16,7 @@ use Rattle.types.specs.declared.State.{State}
 use Rattle.types.specs.declared.State.TheVariants as state
 use Rattle.laws.specs.Words.{waiters_set_cell}
 use Rattle.history.specs.World.{World, cells, Live, after_event, now, Lawful, Spent, number_of_lem, boundaries, caller_releases}
-use Rattle.history.specs.Items.{Call, try_acquire_lem, drop-lease, read-permission, competing-acquire, release-then-handoff, foreign_release, drop-preserving, acquire_preserving, environment, try_lock_lem, transactional, acquire-bucket, release_all_lem, acquire_locks, acquire_sorted, crew, crew_at_work_lem, IsCrew, asked, perform}
+use Rattle.history.specs.Items.{Call, try_acquire_lem, drop_lease, read_permission, competing_acquire, release_then_handoff, foreign_release, drop_preserving, acquire_preserving, environment, try_lock_lem, transactional, acquire_bucket, release_all_lem, acquire_locks, acquire_sorted, crew, crew_at_work_lem, IsCrew, asked, perform}
 use Rattle.history.specs.Statements.{answer_in_lem, leaves, log_of}
 use Rattle.history.specs.Events.{Good, Fit, good, fit, good_after, lives, live_before, new_owner}
 use Rattle.history.specs.Logs.{now_append, lawful_split, good_now, arena_now, live_back, kept_fit}

@@ -3,7 +3,7 @@ use Rattle.std.specs.Prelude.{ℕ, zero, suc, ◌+◌, ◌<◌, ◌≡◌, refl,
 use Rattle.std.proofs.Common.{sym, ap, ◌∙◌, subst, append_assoc, inl, inr, arith}
 use Rattle.std.proofs.Math.Decide.{ℕ_discrete}
 use Rattle.std.proofs.Math.Seq.{take-length}
-use Rattle.model.specs.Log.{Made, Actor, Event, by-caller, attempt-begun, boundary-run, yielded, spun, step-dropped, took, released, waiters_set, health_set, held_all_lem, added}
+use Rattle.model.specs.Log.{Made, Actor, Event, by_caller, attempt_begun, boundary_run, yielded, spun, step_dropped, took, released, waiters_set, health_set, held_all_lem, added}
 use Rattle.model.specs.Arena.{hold_of, hold_in, holds_of, set_cell}
 use Rattle.model.specs.Foreign.{Setting, protecting, flow_of}
 use Rattle.model.specs.Lock.{take_of, lock_of, outcome_of, answer_of, attempt_of, retry_of, attempt_limit, none_yet, settled, hold_at, no_hold, rollback_of, after_key, binding_at, bucket_at, locks_of}
@@ -23,7 +23,7 @@ use Rattle.types.specs.declared.SalvageAnswer.{SalvageAnswer}
 use Rattle.types.specs.declared.SalvageAnswer.TheVariants as salvaged
 use Rattle.laws.specs.Prepared.{Outcome as Prepared, Came, was_done, was_refused, came}
 use Rattle.history.specs.World.{World, Live, after_event, now, Lawful, Releases, Unreleased, world_of}
-use Rattle.history.specs.Items.{Call, Says, ByKeys, in_order, any_order, try_acquire_lem, drop-lease, read-permission, competing-acquire, release-then-handoff, foreign_release, drop-preserving, acquire_preserving, environment, try_lock_lem, transactional, acquire-bucket, release_all_lem, acquire_locks, acquire_sorted, crew, crew_at_work_lem, perform, Item, call, foreign_step, preparation, prepared_by, preparing, next_item, run, cold, asked, Entry, entry_of, events_of, Course, key_cell, preparation_over, salvage, salvage_over, salvaged_by, salvaging}
+use Rattle.history.specs.Items.{Call, Says, ByKeys, in_order, any_order, try_acquire_lem, drop_lease, read_permission, competing_acquire, release_then_handoff, foreign_release, drop_preserving, acquire_preserving, environment, try_lock_lem, transactional, acquire_bucket, release_all_lem, acquire_locks, acquire_sorted, crew, crew_at_work_lem, perform, Item, call, foreign_step, preparation, prepared_by, preparing, next_item, run, cold, asked, Entry, entry_of, events_of, Course, key_cell, preparation_over, salvage, salvage_over, salvaged_by, salvaging}
 use Rattle.history.specs.Statements.{HandsOver, answers, log_of, Gives, Through, buffer_in}
 use Rattle.history.specs.Answers.{AsksOne, BusyOrRefused, LocksRefused, NeverTwice, NoneTakes, NotOverLive, OnceEach, TakesParted, TwoWriters, Hands, AloneUntilReleased}
 use Rattle.history.specs.Tests.{free_words, holds_equal, In, in_take}

@@ -23,7 +23,7 @@ use Rattle.types.specs.declared.Run.{Run}
 use Rattle.types.specs.declared.Tried.{Tried}
 use Rattle.laws.specs.Outcomes.{retry_first}
 use Rattle.history.specs.World.{World}
-use Rattle.history.specs.Items.{Says, says, perform, acquire-bucket, environment, transactional}
+use Rattle.history.specs.Items.{Says, says, perform, acquire_bucket, environment, transactional}
 use Rattle.history.specs.Statements.{world_in, answer_in_lem}
 use Rattle.history.specs.Tests.{differ, if_cases, In}
 use Rattle.history.specs.Logs.{nothing}

@@ -2,7 +2,7 @@
 -- boundaries, and multi-lock such calls key by key; and what follows for the counts. `Theorems` has the proofs by name. What stands in quotes is
 -- of document 01 or 02.
 use Rattle.std.specs.Prelude.{ℕ, ◌+◌, ◌/◌, ◌≤◌, ◌%◌, ◌<◌, ◌≡◌, List, ◌∷◌, ◌++◌, [], ◌↔◌, length, get_or}
-use Rattle.model.specs.Log.{Event, Made, took, released, waiters_set, health_set, held_all_lem, added, spun, yielded, attempt-begun, boundary-run, step-dropped, by-caller, by-script}
+use Rattle.model.specs.Log.{Event, Made, took, released, waiters_set, health_set, held_all_lem, added, spun, yielded, attempt_begun, boundary_run, step_dropped, by_caller, by_script}
 use Rattle.model.specs.Arena.{hold_of, hold_in, words_of, lease_under}
 use Rattle.model.specs.Refusals.{number_of}
 use Rattle.model.specs.Lock.{binding_at, bucket_at}
@@ -19,7 +19,7 @@ use Rattle.types.specs.declared.Reason.TheVariants as reason
 use Rattle.types.specs.declared.Refusal.{Refusal}
 use Rattle.types.specs.declared.Refusal.TheVariants.{Poisoned, SerializationFailure}
 use Rattle.history.specs.World.{World, caller_releases}
-use Rattle.history.specs.Items.{Build, Says, acquire-bucket, acquire_locks, says, environment, transactional, drop-lease, Call}
+use Rattle.history.specs.Items.{Build, Says, acquire_bucket, acquire_locks, says, environment, transactional, drop_lease, Call}
 use Rattle.history.specs.Statements.{answer_in_lem, world_in}
 use Rattle.history_exact.specs.Statements.{Passes}
 use Rattle.history_exact.specs.Script.{place_in}

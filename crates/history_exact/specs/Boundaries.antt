@@ -19,7 +19,7 @@ use Rattle.types.specs.declared.Lease.{Lease}
 use Rattle.types.specs.declared.Reason.{Reason}
 use Rattle.laws.specs.Crew.{total_append}
 use Rattle.history.specs.World.{World}
-use Rattle.history.specs.Items.{Says, perform, acquire-bucket, drop-lease, environment}
+use Rattle.history.specs.Items.{Says, perform, acquire_bucket, drop_lease, environment}
 use Rattle.history.specs.Statements.{answer_in_lem}
 use Rattle.history.specs.Judged.{performed, made_so}
 use Rattle.history_exact.specs.Attempts.{Ends, no_cell, waited, held, not_takable, poisoned, late, granted, ◌and-then◌, spin, yield, Pause, only_spins, also_yields, Attempts, all_busy, the_last, one_busy, locking, between, GivesBack, all_back, one_back, KeyByKey, all_locked, one_locked, one_refused, spins_in, BoundariesAdd, BucketBoundaries, rolled_back, LocksBoundaries}

@@ -2,7 +2,7 @@
 -- 0, 1, 1, first serial 1, empty script unless said."; the boot number is 5.
 use Rattle.std.specs.Prelude.{ℕ, zero, suc, ◌<◌, ◌*◌, ◌+◌, ◌≡◌, refl, List, [], ◌∷◌, replicate}
 use Rattle.std.proofs.Common.{subst, arith}
-use Rattle.model.specs.Log.{by-caller, took}
+use Rattle.model.specs.Log.{by_caller, took}
 use Rattle.model.specs.Arena.{last_serial, head_of, lease_of, leases_of, holds_of, bit_at, owner_at, waiters_at, set_cell, set_waiters, is_free, is_held, state_of, state_at, is_live, head_fits, shape_fits, health_fits, registry_fits}
 use Rattle.model.specs.Refusals.{first}
 use Rattle.model.specs.Lock.{binding_at, bucket_at}
@@ -13,7 +13,7 @@ use Rattle.types.specs.declared.Check.TheVariants.{Fine}
 use Rattle.types.specs.declared.Reason.TheVariants as reason
 use Rattle.types.specs.declared.Refusal.TheVariants.{SerialsSpent, SerializationFailure}
 use Rattle.history.specs.World.{World, world_of, after_event}
-use Rattle.history.specs.Items.{Call, Says, says, acquire-bucket, acquire_locks, key_cell, perform, rules}
+use Rattle.history.specs.Items.{Call, Says, says, acquire_bucket, acquire_locks, key_cell, perform, rules}
 use Rattle.history.specs.Judged.{clear}
 use Rattle.history_exact.specs.Statements.{IsFree, IsHeld, Unwaited, Quietly, at_waited, at_held, at_damaged, at_spent, at_free, Names, leases_from, Passes}
 use Rattle.history_exact.specs.Theorems.{acquire_bucket_quiet, locks_refused_quiet}

@@ -2,7 +2,7 @@
 -- with its 5 or to the script's end. Between two boundaries there are only the caller's own events. No arena rule is needed.
 use Rattle.std.specs.Prelude.{ℕ, ◌≤◌, ◌≡◌, refl, List, ◌∷◌, ◌++◌}
 use Rattle.std.proofs.Common.{sym, ap, ◌∙◌, subst, append_assoc, arith}
-use Rattle.model.specs.Log.{Event, boundary-run}
+use Rattle.model.specs.Log.{Event, boundary_run}
 use Rattle.model.specs.Foreign.{steps_in}
 use Rattle.types.specs.declared.Hold.{Hold}
 use Rattle.history.specs.World.{World, now, Lawful, Legal}

@@ -8,7 +8,7 @@ use Rattle.std.proofs.Math.ListN.{take}
 use Rattle.std.proofs.Common.{take-suc, eqb-true}
 use Rattle.std.proofs.Math.Seq.{take-length}
 use Rattle.std.proofs.lemmas.Bool.{eqb-false}
-use Rattle.model.specs.Log.{Made, Event, boundary-run}
+use Rattle.model.specs.Log.{Made, Event, boundary_run}
 use Rattle.model.specs.Arena.{serial_remains, header_of, is_poisoned, hold_of, hold_in, holds_of, waiters_at, set_cell, state_at}
 use Rattle.model.specs.Foreign.{steps_in, kind_at, place_at, number_at, flow_of, step_of, run_steps_of, boundary_of}
 use Rattle.model.specs.Lock.{take_in, take_of, late_stage_of, after_take, second_stage_of, lock_of, outcome_of, run_of, find_of, attempt_at, attempt_of, spin_of, pause_of, is_busy, retry_of, attempt_limit, none_yet, no_hold, hold_at, give_back_of, Locks, rollback_of, after_key, binding_at, bucket_at, locks_of}

@@ -5,7 +5,7 @@ use Rattle.std.proofs.Math.Path.{refl, ap}
 use mathlib.Core.List.{List, [], ◌∷◌, ◌++◌}
 use Rattle.std.proofs.Common.{add-zero, arith}
 use Rattle.choice.specs.Choice.{if◌then◌else◌}
-use Rattle.model.specs.Log.{Made, Event, by-caller, attempt-begun, yielded, released}
+use Rattle.model.specs.Log.{Made, Event, by_caller, attempt_begun, yielded, released}
 use Rattle.model.specs.Arena.{header_of, is_poisoned, hold_of, set_cell, waiters_at}
 use Rattle.model.specs.Foreign.{Setting, protecting, steps_in, kind_at, place_at, number_at, flow_of, step_of, run_steps_of, boundary_of}
 use Rattle.model.specs.Lock.{take_of, locked_of, late_stage_of, after_take, second_stage_of, lock_of, run_of, tried_of, find_of, attempt_at, attempt_of, spin_of, pause_of, is_busy, retry_of, attempt_limit, none_yet, hold_at, give_back_of, Locks, ended_of, rollback_of, after_key, binding_at, bucket_at, locks_of}

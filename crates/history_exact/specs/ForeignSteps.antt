@@ -6,7 +6,7 @@ use Rattle.std.proofs.Common.{sym, ◌∙◌, subst, arith}
 use Rattle.std.proofs.Math.Bool.{not}
 use Rattle.std.proofs.Math.Dec.{leb}
 use borrow.Author.Tests.{ltb-true, leb-true, eqb-true, eqb-false, lt-ltb, le-leb, eq-eqb, not-true}
-use Rattle.model.specs.Log.{Made, Event, by-script, step-dropped, took, released, waiters_set, health_set}
+use Rattle.model.specs.Log.{Made, Event, by_script, step_dropped, took, released, waiters_set, health_set}
 use Rattle.model.specs.Arena.{last_serial, serial_remains, cells_of, hold_of, bit_at, owner_at, is_free, is_live, is_in}
 use Rattle.model.specs.Foreign.{step_take_of, step_release_of, step_waiters_of, step_health_of, step_of}
 use Rattle.model.specs.Calls.{given}

@@ -11,7 +11,7 @@ use Rattle.std.proofs.Math.Dec.{ltb}
 use Rattle.std.proofs.Math.ListN.{length, take, length-append}
 use Rattle.std.proofs.Math.Seq.{take-length, length-take-le}
 use borrow.Author.Tests.{ltb-false, not-false}
-use Rattle.model.specs.Log.{Made, Event, by-caller, released}
+use Rattle.model.specs.Log.{Made, Event, by_caller, released}
 use Rattle.model.specs.Arena.{leases_of, holds_of, words_of, set_cell, lease_under}
 use Rattle.model.specs.Foreign.{Setting, protecting, steps_in, flow_of, boundary_of}
 use Rattle.model.specs.Lock.{no_hold, hold_at, attempt_limit, none_yet, retry_of, give_back_of, Locks, ended_of, rollback_of, after_key, binding_at, bucket_at, locks_of, settled, answer_of, run_of}
@@ -30,7 +30,7 @@ use Rattle.choice.specs.Pick.{neither}
 use Rattle.laws.specs.Shape.{shaped}
 use Rattle.laws.specs.Checks.{not_stale}
 use Rattle.history.specs.World.{World, Live}
-use Rattle.history.specs.Items.{Says, says, perform, acquire-bucket, acquire_locks, environment, drop-lease}
+use Rattle.history.specs.Items.{Says, says, perform, acquire_bucket, acquire_locks, environment, drop_lease}
 use Rattle.history.specs.Statements.{answer_in_lem, world_in}
 use Rattle.history.specs.Tests.{In, in_left, in_right, in_take, in_index}
 use Rattle.history.specs.Events.{Fit, lives}

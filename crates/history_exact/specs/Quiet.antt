@@ -11,7 +11,7 @@ use Rattle.std.proofs.Math.Decide.{ℕ_discrete}
 use borrow.Author.Tests.{ltb-true, ltb-false, eqb-true, eqb-false, eq-eqb, ne_eqb}
 use Rattle.choice.specs.Choice.{if◌then◌else◌}
 use Rattle.std.proofs.lemmas.List.{set-get_or}
-use Rattle.model.specs.Log.{Made, boundary-run}
+use Rattle.model.specs.Log.{Made, boundary_run}
 use Rattle.model.specs.Arena.{last_serial, serial_remains, header_of, hold_of, bit_at, owner_at, waiters_at, set_cell, state_at}
 use Rattle.model.specs.Foreign.{Setting, protecting, steps_in, flow_of, run_steps_of, boundary_of}
 use Rattle.model.specs.Lock.{take_in, take_of, locked_of, late_stage_of, after_take, second_stage_of, lock_of, run_of, tried_of, attempt_of, spin_of, pause_of, retry_of}

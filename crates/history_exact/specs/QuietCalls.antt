@@ -24,7 +24,7 @@ use Rattle.laws.specs.Keys.{header_of_key_lem}
 use Rattle.laws.specs.Outcomes.{retry_first}
 use Rattle.history.specs.Judged.{made_so}
 use Rattle.history.specs.World.{World, world_of, Healthy}
-use Rattle.history.specs.Items.{Says, says, perform, cell_of, try_lock_lem, transactional, acquire-bucket}
+use Rattle.history.specs.Items.{Says, says, perform, cell_of, try_lock_lem, transactional, acquire_bucket}
 use Rattle.history.specs.Tests.{if_cases}
 use Rattle.history.specs.Steps.{With}
 use Rattle.history_exact.specs.Statements.{PerCell, sick_cell, sound_cell, Ready, AcquireBucketExactly, AcquireBucketQuiet, ByKey, Names, Quietly, TransactionalQuiet, TryLockExactly, TryLockQuiet, bad_header_lem, LocksExactly, at_waited, busy_after, failed_after, is_poisoned_lem, at_held, bad_bucket, at_damaged, names, at_spent, at_free}

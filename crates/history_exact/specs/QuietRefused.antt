@@ -33,7 +33,7 @@ use Rattle.laws.specs.Words.{bit_set_other, owner_set_other}
 use Rattle.laws.specs.Keys.{place_inside, find_healthy}
 use Rattle.laws.specs.Outcomes.{retry_first}
 use Rattle.history.specs.World.{World, world_of, Unreleased, now, Lawful}
-use Rattle.history.specs.Items.{Says, says, acquire-bucket, acquire_locks, perform, key_cell, Call, Clear, rules}
+use Rattle.history.specs.Items.{Says, says, acquire_bucket, acquire_locks, perform, key_cell, Call, Clear, rules}
 use Rattle.history.specs.Tests.{state_free, In}
 use Rattle.history.specs.Logs.{Kept}
 use Rattle.history.specs.Judged.{past_checks, made_so}

@@ -1,7 +1,7 @@
 -- How a call uses up its script, as statements: the steps from its place on are run once each, in order, at the boundaries in order, each boundary
 -- up to and with its 5 or to the script's end. Between two boundaries there are only the caller's own events. Proofs are named in `Theorems`.
 use Rattle.std.specs.Prelude.{ℕ, ◌+◌, ◌≤◌, ◌<◌, ◌≡◌, List, ◌∷◌, [], ◌++◌, length, get_or}
-use Rattle.model.specs.Log.{Event, Made, attempt-begun, yielded, spun, took, by-caller, boundary-run, released, by-script, step-dropped, waiters_set, health_set, held_all_lem, added}
+use Rattle.model.specs.Log.{Event, Made, attempt_begun, yielded, spun, took, by_caller, boundary_run, released, by_script, step_dropped, waiters_set, health_set, held_all_lem, added}
 use Rattle.model.specs.Arena.{hold_in, holds_of, words_of}
 use Rattle.model.specs.Foreign.{steps_in, kind_at, place_at, number_at}
 use Rattle.model.specs.Sorted.{cells_sorted, shared_of}
@@ -10,7 +10,7 @@ use Rattle.types.specs.declared.Answer.{Answer}
 use Rattle.types.specs.declared.Answer.TheVariants.{Done, Busy, Refused, Cell, Granted, AllGranted, RefusedAt}
 use Rattle.types.specs.declared.Hold.{Hold}
 use Rattle.history.specs.World.{World, after_event, now, Legal}
-use Rattle.history.specs.Items.{Build, Call, Says, environment, place_of, script_of_lem, try_lock_lem, held_of, transactional, acquire-bucket, given_up, release_all_lem, acquire_locks, acquire_sorted}
+use Rattle.history.specs.Items.{Build, Call, Says, environment, place_of, script_of_lem, try_lock_lem, held_of, transactional, acquire_bucket, given_up, release_all_lem, acquire_locks, acquire_sorted}
 use Rattle.history_exact.specs.Statements.{Passes, Stepping}
 
 -- the calls with a script

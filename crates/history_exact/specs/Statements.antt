@@ -3,7 +3,7 @@
 -- `pinned`. What stands in quotes is of document 01 or 02. A statement is one of any build, any function that answers calls; `Theorems` proves it of ours. The
 -- arena need not be sound: the call passes its checks, and that is all.
 use Rattle.std.specs.Prelude.{ℕ, ◌<◌, ◌≤◌, suc, ◌+◌, zero, ◌*◌, ◌≡◌, List, [], ◌∷◌, false, ◌↔◌, get_or}
-use Rattle.model.specs.Log.{Event, took, by-caller, by-script, attempt-begun, released, waiters_set, health_set, held_all_lem, added, yielded, spun, boundary-run, step-dropped}
+use Rattle.model.specs.Log.{Event, took, by_caller, by_script, attempt_begun, released, waiters_set, health_set, held_all_lem, added, yielded, spun, boundary_run, step_dropped}
 use Rattle.model.specs.Arena.{bit_at, header_of, waiters_at, last_serial, is_in, lease_of, hold_of, spent_to, owner_at, words_of}
 use Rattle.model.specs.Foreign.{steps_in}
 use Rattle.model.specs.Lock.{binding_at, bucket_at}
@@ -18,7 +18,7 @@ use Rattle.types.specs.declared.Reason.TheVariants as reason
 use Rattle.types.specs.declared.Refusal.{Refusal}
 use Rattle.types.specs.declared.Refusal.TheVariants.{BadHeader, Damaged, InvalidBucket, SerializationFailure, SerialsSpent, Poisoned}
 use Rattle.history.specs.World.{World, Healthy, Legal, now, after_event, world_of}
-use Rattle.history.specs.Items.{Build, Says, Call, acquire-bucket, acquire_locks, says, transactional, try_lock_lem, key_cell, cell_of, Clear, rules}
+use Rattle.history.specs.Items.{Build, Says, Call, acquire_bucket, acquire_locks, says, transactional, try_lock_lem, key_cell, cell_of, Clear, rules}
 use Rattle.history.specs.Statements.{answer_in_lem}
 
 -- the call passes its checks: none of document 01's table applies to what it was given

@@ -19,7 +19,7 @@ use types::{
 };
 
 // What a compare-and-set hands back: the changed head, and its answer.
-#[derive(Drop)]
+#[derive(Clone, Copy)]
 pub struct Claim {
     pub head: Head,
     pub answer: Take,

@@ -168,7 +168,7 @@ fn boundaries_for(answer: Take) -> usize
 
 // What one try_lock answers where every boundary is quiet: its compare-and-set's answer, held by this serial, or that
 // somebody waits and there was none.
-#[derive(Drop)]
+#[derive(Clone, Copy)]
 pub enum Quietly {
     Granted(u32),
     Held(u32),
@@ -178,7 +178,7 @@ pub enum Quietly {
 }
 
 // That, and what it counts.
-#[derive(Drop)]
+#[derive(Clone, Copy)]
 pub struct Quiet {
     pub flow: Flow,
     pub boundaries: usize,

@@ -1,7 +1,7 @@
 -- Document 01's calls: the checks on what a call takes, then its steps. Each gives its result and, behind it, the lent runs it may
 -- change, in the order in which it takes them; beside that, the log.
 use Rattle.std.specs.Prelude.{ℕ, List, [], length, replicate}
-use Rattle.model.specs.Log.{Made, by-caller, attempt-begun, released, gives, note, ◌>>=◌, ◌>>◌}
+use Rattle.model.specs.Log.{Made, by_caller, attempt_begun, released, gives, note, ◌>>=◌, ◌>>◌}
 use Rattle.model.specs.Arena.{cells_of, head_of, spent_to, set_cell, hold_in, holds_of}
 use Rattle.model.specs.Refusals.{first, judge}
 use Rattle.model.specs.Checks.{count_in, lease_count, prepare_rules, cell_rules, lease_rules, held_cell_rules, held_lease_rules, script_rules, lock_rules, bucket_rules, release_rules, locks_rules}

@@ -2,7 +2,7 @@
 -- `Calls`.
 use Rattle.std.specs.Prelude.{ℕ, zero, suc, ◌+◌, ◌*◌, ◌%◌, List, [], ◌∷◌, ◌++◌, Bool, true, false, leb, eqb, length, get_or, take}
 use Rattle.choice.specs.Choice.{if◌then◌else◌}
-use Rattle.model.specs.Log.{Made, by-caller, attempt-begun, yielded, spun, took, released, gives, note, ◌>>=◌, ◌>>◌}
+use Rattle.model.specs.Log.{Made, by_caller, attempt_begun, yielded, spun, took, released, gives, note, ◌>>=◌, ◌>>◌}
 use Rattle.model.specs.Arena.{serial_remains, cell_number, header_of, is_poisoned, waiters_at, set_cell, state_at, hold_of, lease_under, words_of}
 use Rattle.model.specs.Foreign.{Setting, protecting, flow_of, boundary_of}
 use Rattle.types.specs.declared.Answer.{Answer}

@@ -6,7 +6,7 @@ use mathlib.Core.List.{List, [], ◌∷◌, ◌++◌, append-nil}
 use Rattle.std.proofs.Math.Bool.{not}
 use Rattle.std.proofs.Math.Logic.{inl, inr}
 use Rattle.std.proofs.lemmas.Bool.{lt-leb, not-false}
-use Rattle.model.specs.Log.{Made, Event, by-caller, attempt-begun, released}
+use Rattle.model.specs.Log.{Made, Event, by_caller, attempt_begun, released}
 use Rattle.model.specs.Arena.{registry_fits, shape_fits, is_in, cells_of, hold_in, holds_of, is_live, words_of}
 use Rattle.model.specs.Foreign.{steps_in}
 use Rattle.model.specs.Checks.{cell_rules, lease_rules, script_rules, lock_rules, bucket_rules, bad_held, bad_binding, bad_cell}
@@ -19,7 +19,7 @@ use Rattle.types.specs.declared.Refusal.TheVariants.{Poisoned}
 use Rattle.laws.specs.Shape.{shaped}
 use Rattle.laws.specs.Checks.{not_stale}
 use Rattle.history.specs.World.{World, Unreleased}
-use Rattle.history.specs.Items.{Build, Says, says, Clear, rules, perform, try_acquire_lem, drop-lease, environment, try_lock_lem}
+use Rattle.history.specs.Items.{Build, Says, says, Clear, rules, perform, try_acquire_lem, drop_lease, environment, try_lock_lem}
 use Rattle.history.specs.Statements.{HandsOver}
 use Rattle.history.specs.Theorems.{given_live, grant_is}
 use Rattle.history.specs.Tests.{In, in_first, in_right, in_cases, none_in}

@@ -9,7 +9,7 @@ use Rattle.std.proofs.Math.Bool.{not}
 use native.Mathlib.Omega.{arith}
 use borrow.Author.Tests.{ltb-false, not-false}
 use Rattle.choice.specs.Pick.{neither}
-use Rattle.model.specs.Log.{Made, by-caller, released}
+use Rattle.model.specs.Log.{Made, by_caller, released}
 use Rattle.model.specs.Arena.{registry_fits, cells_of, set_cell, is_live, is_in, leases_of, holds_of, words_of, lease_under}
 use Rattle.model.specs.Lock.{hold_at, no_hold}
 use Rattle.model.specs.Checks.{lease_count, is_uneven, not_live, lease_rules, bucket_rules, release_rules}
@@ -19,7 +19,7 @@ use Rattle.laws.specs.Shape.{shaped}
 use Rattle.laws.specs.Checks.{not_stale}
 use Rattle.laws.specs.Lists.{holds_few}
 use Rattle.history.specs.World.{World}
-use Rattle.history.specs.Items.{Says, says, Clear, rules, perform, drop-lease, environment, release_all_lem}
+use Rattle.history.specs.Items.{Says, says, Clear, rules, perform, drop_lease, environment, release_all_lem}
 use Rattle.history.specs.Tests.{In, in_take, differ}
 use Rattle.history.specs.Events.{Fit}
 use Rattle.history.specs.Logs.{Kept, event, weaken, kept_live}

@@ -6,7 +6,7 @@ use Rattle.types.specs.declared.Lease.{Lease}
 use Rattle.types.specs.declared.Refusal.{Refusal}
 use Rattle.types.specs.declared.Refusal.TheVariants.{BadShape, BadScript, BadHeld, TooMany, BadBinding, BadHeader, Poisoned, InvalidBucket, Damaged, SerialsSpent, SerializationFailure, NotHeld, Protected, Repeated, BadCrew, StaleBoot}
 use Rattle.history.specs.World.{World}
-use Rattle.history.specs.Items.{Call, try_acquire_lem, drop-lease, read-permission, competing-acquire, release-then-handoff, foreign_release, drop-preserving, acquire_preserving, environment, try_lock_lem, transactional, acquire-bucket, release_all_lem, acquire_locks, acquire_sorted, crew, crew_at_work_lem}
+use Rattle.history.specs.Items.{Call, try_acquire_lem, drop_lease, read_permission, competing_acquire, release_then_handoff, foreign_release, drop_preserving, acquire_preserving, environment, try_lock_lem, transactional, acquire_bucket, release_all_lem, acquire_locks, acquire_sorted, crew, crew_at_work_lem}
 use Rattle.pinned.specs.Words.{Shape, IsLive, StandsIn, size, holds}
 
 -- ---- the table: a refusal's number, and what it carries. Document 02, L1: "refusal 11 carries that reason besides 4,096"; L8: "StaleBoot (16), with its

@@ -10,7 +10,7 @@ use Rattle.std.proofs.Math.Dec.{eqb}
 use Rattle.std.proofs.Math.ListN.{get_or, set}
 use Rattle.std.proofs.lemmas.Bool.{eqb-false, not-true, not-false}
 use Rattle.choice.specs.Choice.{if◌then◌else◌}
-use Rattle.model.specs.Log.{Made, Event, by-caller, attempt-begun, released, held_all_lem, added, gives, note}
+use Rattle.model.specs.Log.{Made, Event, by_caller, attempt_begun, released, held_all_lem, added, gives, note}
 use Rattle.model.specs.Arena.{spent_to, header_of, is_poisoned, set_cell}
 use Rattle.model.specs.Foreign.{flow_of}
 use Rattle.model.specs.Lock.{answer_of, lock_of}

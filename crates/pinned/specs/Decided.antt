@@ -16,7 +16,7 @@ use Rattle.types.specs.declared.Refusal.{Refusal}
 use Rattle.types.specs.declared.Refusal.TheVariants.{BadBinding}
 use Rattle.laws.specs.Shape.{shaped}
 use Rattle.history.specs.World.{World}
-use Rattle.history.specs.Items.{Call, Clear, rules, try_acquire_lem, drop-lease, read-permission, competing-acquire, release-then-handoff, foreign_release, drop-preserving, acquire_preserving, environment, try_lock_lem, transactional, acquire-bucket, release_all_lem, acquire_locks, acquire_sorted, crew, crew_at_work_lem}
+use Rattle.history.specs.Items.{Call, Clear, rules, try_acquire_lem, drop_lease, read_permission, competing_acquire, release_then_handoff, foreign_release, drop_preserving, acquire_preserving, environment, try_lock_lem, transactional, acquire_bucket, release_all_lem, acquire_locks, acquire_sorted, crew, crew_at_work_lem}
 use Rattle.history.specs.Tests.{alive, live, in_first, in_rest, in_cases, differ}
 use Rattle.history.specs.Events.{fits}
 use Rattle.pinned.specs.Words.{Shape, IsLive, StandsIn, size, holds}

@@ -12,7 +12,7 @@ use Rattle.types.specs.declared.Lease.{Lease}
 use Rattle.types.specs.declared.Reason.TheVariants as reason
 use Rattle.history.specs.Judged.{refused_so, made_so}
 use Rattle.history.specs.World.{World}
-use Rattle.history.specs.Items.{Build, Says, rules, Call, try_acquire_lem, drop-lease, read-permission, competing-acquire, release-then-handoff, foreign_release, drop-preserving, acquire_preserving, environment, try_lock_lem, transactional, acquire-bucket, release_all_lem, acquire_locks, acquire_sorted, crew, crew_at_work_lem, place_of, buffer, perform, Clear}
+use Rattle.history.specs.Items.{Build, Says, rules, Call, try_acquire_lem, drop_lease, read_permission, competing_acquire, release_then_handoff, foreign_release, drop_preserving, acquire_preserving, environment, try_lock_lem, transactional, acquire_bucket, release_all_lem, acquire_locks, acquire_sorted, crew, crew_at_work_lem, place_of, buffer, perform, Clear}
 use Rattle.pinned.specs.Words.{holds, words, logged, counted, says}
 use Rattle.pinned.specs.Checks.{checks}
 use Rattle.pinned.specs.Steps.{at, gathered}

@@ -8,7 +8,7 @@ use Rattle.std.proofs.Math.Bool.{true}
 use Rattle.std.proofs.Math.ListN.{get_or, length-set}
 use borrow.Author.Tests.{eqb-true, eqb-false, leb-true, leb-false, lt-leb, not-false}
 use Rattle.choice.specs.Choice.{if◌then◌else◌}
-use Rattle.model.specs.Log.{Made, Event, attempt-begun, by-caller, released, gives}
+use Rattle.model.specs.Log.{Made, Event, attempt_begun, by_caller, released, gives}
 use Rattle.model.specs.Arena.{spent_to, cells_of, bit_at, owner_at, state_at, is_live, set_cell, holds_of, hold_in, words_of}
 use Rattle.model.specs.Foreign.{flow_of, boundary_of}
 use Rattle.model.specs.Lock.{took_of, take_of, answer_of, outcome_of, lock_of, find_of, attempt_at, attempt_of, run_of, hold_at, give_back_of}
@@ -29,7 +29,7 @@ use Rattle.types.specs.declared.Refusal.TheVariants.{BadHeader, Poisoned, Invali
 use Rattle.types.specs.declared.Take.TheVariants as taking
 use Rattle.laws.specs.Checks.{live_inside}
 use Rattle.history.specs.World.{World, world_of}
-use Rattle.history.specs.Items.{Says, says, Clear, rules, perform, Call, try_acquire_lem, drop-lease, competing-acquire, release-then-handoff, foreign_release, drop-preserving, acquire_preserving, environment, try_lock_lem, transactional, acquire-bucket, release_all_lem, acquire_locks, crew, crew_at_work_lem}
+use Rattle.history.specs.Items.{Says, says, Clear, rules, perform, Call, try_acquire_lem, drop_lease, competing_acquire, release_then_handoff, foreign_release, drop_preserving, acquire_preserving, environment, try_lock_lem, transactional, acquire_bucket, release_all_lem, acquire_locks, crew, crew_at_work_lem}
 use Rattle.history.specs.Judged.{past_checks, clear_front, clear_back, clear_append, made_so}
 use Rattle.history.specs.Tests.{alive, state_held}
 use Rattle.history_exact.specs.Attempts as calls

@@ -2,7 +2,7 @@
 -- world. So the ledger of a history can be read without the definitions of crate `model`.
 use Rattle.std.specs.Prelude.{ℕ, ◌≤◌, ◌<◌, ◌≡◌, refl, ◌↔◌, length}
 use Rattle.std.proofs.Common.{ap, arith, eqb-true, eq-eqb}
-use Rattle.model.specs.Log.{Event, attempt-begun, boundary-run, yielded, spun, step-dropped, took, released, waiters_set, health_set, held_all_lem, added}
+use Rattle.model.specs.Log.{Event, attempt_begun, boundary_run, yielded, spun, step_dropped, took, released, waiters_set, health_set, held_all_lem, added}
 use Rattle.model.specs.Arena.{hold_of, bit_at, owner_at, set_cell, set_waiters, state_at, health_fits}
 use Rattle.types.specs.declared.State.{State}
 use Rattle.types.specs.declared.State.TheVariants as state

@@ -3,7 +3,7 @@
 -- and `Meets` first, and of what stands above them what they name. Behind them stand the crew's whole replies, a lone foreign step, preparing and salvage.
 -- `Theorems`: ours meets all of it (`meets`), and no other build does (`no_other_build`).
 use Rattle.std.specs.Prelude.{ℕ, zero, suc, ◌+◌, ◌*◌, ◌/◌, ◌%◌, ◌≤◌, ◌<◌, ◌≡◌, List, [], ◌∷◌, ◌++◌, ◌≢◌, ◌⊎◌, ◌↔◌, length, get_or, drop, replicate}
-use Rattle.model.specs.Log.{Made, by-caller, attempt-begun, yielded, spun, released}
+use Rattle.model.specs.Log.{Made, by_caller, attempt_begun, yielded, spun, released}
 use Rattle.types.specs.declared.Answer.{Answer}
 use Rattle.types.specs.declared.Answer.TheVariants.{Done, Cell, Granted, AllGranted, Busy, Refused, RefusedAt}
 use Rattle.types.specs.declared.Counts.{Counts}
@@ -19,7 +19,7 @@ use Rattle.types.specs.declared.SalvageAnswer.{SalvageAnswer}
 use Rattle.types.specs.declared.SalvageAnswer.TheVariants as salvaged
 use Rattle.types.specs.declared.SalvageReply.{SalvageReply}
 use Rattle.history.specs.World.{World}
-use Rattle.history.specs.Items.{Build, Stepper, Says, Call, try_acquire_lem, drop-lease, read-permission, competing-acquire, release-then-handoff, foreign_release, drop-preserving, acquire_preserving, environment, try_lock_lem, transactional, acquire-bucket, release_all_lem, acquire_locks, acquire_sorted, crew, crew_at_work_lem}
+use Rattle.history.specs.Items.{Build, Stepper, Says, Call, try_acquire_lem, drop_lease, read_permission, competing_acquire, release_then_handoff, foreign_release, drop_preserving, acquire_preserving, environment, try_lock_lem, transactional, acquire_bucket, release_all_lem, acquire_locks, acquire_sorted, crew, crew_at_work_lem}
 use Rattle.history.specs.Statements.{CrewBuild, CrewAtWorkBuild}
 use Rattle.pinned.specs.Words.{Result, Shape, Is, If◌Then◌Else◌, With, Gives, Does, Noting, SeenAs, IfBusy, logged, arena, head_of_lem, health_byte, freed, holds, words, counted, says}
 use Rattle.pinned.specs.Checks.{First, Passed, checks}

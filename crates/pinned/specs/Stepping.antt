@@ -10,7 +10,7 @@ use Rattle.std.proofs.Math.Dec.{leb}
 use borrow.Author.Tests.{ltb-true, ltb-false, leb-true, eqb-true, eqb-false, lt-ltb, le-leb, eq-eqb, not-true}
 use Rattle.choice.specs.Choice.{if◌then◌else◌}
 use Rattle.choice.specs.Pick.{both}
-use Rattle.model.specs.Log.{Made, gives, by-caller, by-script, attempt-begun, step-dropped, took, released, waiters_set, health_set}
+use Rattle.model.specs.Log.{Made, gives, by_caller, by_script, attempt_begun, step_dropped, took, released, waiters_set, health_set}
 use Rattle.model.specs.Arena.{last_serial, serial_remains, spent_to, cells_of, header_of, is_poisoned, bit_at, owner_at, waiters_at, set_cell, set_waiters, state_at, is_free, is_live, is_in, hold_of}
 use Rattle.model.specs.Foreign.{flow_of, step_take_of, step_release_of, step_waiters_of, step_health_of, step_of, run_steps_of, boundary_of}
 use Rattle.model.specs.Lock.{take_in, take_of, outcome_of, answer_of, locked_of, give_up_of, late_stage_of, after_take, second_stage_of, lock_of, give_back_of, hold_at, run_of}

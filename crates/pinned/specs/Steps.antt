@@ -1,7 +1,7 @@
 -- Third of the four files: the steps that calls are made of, in plain numbers, with the log of each. A compare-and-set, a foreign step, a boundary, the
 -- steps of `try_lock`, and the crew's turns. `Words` has the arena and the ways to say a thing, `Checks` the refusals.
 use Rattle.std.specs.Prelude.{ℕ, zero, suc, ◌+◌, ◌*◌, ◌-◌, ◌/◌, ◌%◌, ◌≤◌, ◌<◌, min, ◌≡◌, List, [], ◌∷◌, ◌++◌, ◌≢◌, length, get_or, set, take, replicate}
-use Rattle.model.specs.Log.{Event, Made, by-caller, by-script, attempt-begun, boundary-run, step-dropped, took, released, waiters_set, health_set, held_all_lem, added}
+use Rattle.model.specs.Log.{Event, Made, by_caller, by_script, attempt_begun, boundary_run, step_dropped, took, released, waiters_set, health_set, held_all_lem, added}
 use Rattle.types.specs.declared.Answer.{Answer}
 use Rattle.types.specs.declared.Answer.TheVariants.{Granted, Busy, Refused}
 use Rattle.types.specs.declared.Hold.{Hold}

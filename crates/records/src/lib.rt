@@ -10,7 +10,7 @@ ghost use Rattle.records.specs.Model.{take_rule_of, drop_rule_of};
 use types::{Answer, Head, Lease, Refusal, Reply, Serial, State, Take};
 
 // A cell of the arena.
-#[derive(Drop)]
+#[derive(Clone, Copy)]
 pub struct Cell {
     pub bit: u32,
     pub owner: u32,
@@ -18,14 +18,14 @@ pub struct Cell {
 }
 
 // Where the record of a call stands, and what the call answers where the slice has no such place.
-#[derive(Drop)]
+#[derive(Clone, Copy)]
 struct Spot {
     at: usize,
     refused: Reply,
 }
 
 // What a rule makes of a record: the record after it, and the call's answer.
-#[derive(Drop)]
+#[derive(Clone, Copy)]
 struct Changed {
     cell: Cell,
     reply: Reply,

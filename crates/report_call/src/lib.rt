@@ -11,7 +11,7 @@ ghost use Rattle.report_rules.specs.Report.{row_of, rows_of, head_of, bad_text, 
 use report_rules::{Line, Reported, Trial};
 
 // The sums so far. `bad` is the number of the first bad line, 0 while there is none.
-#[derive(Drop)]
+#[derive(Clone, Copy)]
 pub struct Sums {
     pub bad: usize,
     pub trials: usize,

@@ -2,14 +2,14 @@
 // computed cases.
 
 // One result: the attempts it took, and the number of its refusal, 0 for granted.
-#[derive(Drop)]
+#[derive(Clone, Copy)]
 pub struct Trial {
     pub attempts: u32,
     pub refusal: u32,
 }
 
 // A line of the input: whether a trial stands there, the trial, and where the next line begins.
-#[derive(Drop)]
+#[derive(Clone, Copy)]
 pub struct Line {
     pub fine: bool,
     pub trial: Trial,
@@ -17,7 +17,7 @@ pub struct Line {
 }
 
 // What the report comes to: the room is too small, or so many bytes were written.
-#[derive(Drop)]
+#[derive(Clone, Copy)]
 pub enum Reported {
     NoRoom,
     Done(usize),

@@ -15,7 +15,7 @@ use Rattle.std.proofs.lemmas.List.Edits.{sets, sets-eq}
 use Rattle.std.proofs.Math.Seq.{take_all}
 use Rattle.choice.specs.Choice.{if◌then◌else◌}
 use Rattle.choice.specs.Pick.{if_both}
-use Rattle.choice.specs.Lists.{sets_sets as laid-twice}
+use Rattle.choice.specs.Lists.{sets_sets as laid_twice}
 use Rattle.model.specs.Arena.{cells_of, bit_at, owner_at, waiters_at, set_cell, set_waiters, is_free, is_held, state_of}
 use Rattle.model.specs.Salvage.{kept_in, kept_of, mended_cell, mended_table, mended_byte, mended_health, change_of, changes_from, changes_of, entries_of, held_from, left_held, over_of, mend_of}
 use Rattle.types.specs.declared.Head.{Head}

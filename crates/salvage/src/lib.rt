@@ -16,14 +16,14 @@ ghost use Rattle.salvage.specs.Laws.{laid_of, used_in, used_from};
 use types::{Check, Head, SalvageAnswer, SalvageReply};
 
 // How many words or bytes change, and how many cells are held.
-#[derive(Drop)]
+#[derive(Clone, Copy)]
 struct Tally {
     changes: usize,
     left: usize,
 }
 
 // Where the entries of the report end, and those of the list.
-#[derive(Drop)]
+#[derive(Clone, Copy)]
 struct Ends {
     at: usize,
     left: usize,

@@ -1,7 +1,7 @@
 -- The premises can be met: a salvage that is done, one that is refused, one that leaves two cells with one owner; and a history with a salvage.
 use Rattle.std.specs.Prelude.{ℕ, zero, suc, ◌+◌, ◌≡◌, refl, List, [], ◌∷◌, ◌++◌, false, get_or, take, replicate}
 use Rattle.std.proofs.Common.{sym, subst, arith}
-use Rattle.model.specs.Log.{Actor, Event, by-caller, attempt-begun, took, released}
+use Rattle.model.specs.Log.{Actor, Event, by_caller, attempt_begun, took, released}
 use Rattle.model.specs.Arena.{head_of, lease_of, hold_of, bit_at, owner_at, set_cell, is_free, is_held, state_of, state_at, is_live, head_fits, shape_fits, health_fits}
 use Rattle.model.specs.Refusals.{first}
 use Rattle.model.specs.Lock.{take_of}
@@ -13,7 +13,7 @@ use Rattle.types.specs.declared.Head.{Head}
 use Rattle.types.specs.declared.Refusal.TheVariants.{NotHeld}
 use Rattle.types.specs.declared.SalvageAnswer.TheVariants.{Done, ReportFull}
 use Rattle.history.specs.World.{World, world_of, cells, Live, Free, Apart, Sound, now, Lawful, Spent, bits, number_of_lem, takes, releases}
-use Rattle.history.specs.Items.{drop-lease, try_acquire_lem, perform, Item, call, preparation, salvage, salvage_over, says, saying, Entry, entry_of, Course, course_of, cold, history_of, preparing, salvaging, next_item, run}
+use Rattle.history.specs.Items.{drop_lease, try_acquire_lem, perform, Item, call, preparation, salvage, salvage_over, says, saying, Entry, entry_of, Course, course_of, cold, history_of, preparing, salvaging, next_item, run}
 use Rattle.history.specs.Statements.{answers, leaves, rescued, Begins, NoStart}
 use Rattle.history.specs.Tests.{differ}
 use Rattle.history.specs.Events.{lives}

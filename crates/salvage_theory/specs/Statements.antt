@@ -11,7 +11,7 @@ use Rattle.types.specs.declared.State.TheVariants as state
 use Rattle.model.specs.Log.{Actor, Event, took, released}
 use Rattle.types.specs.declared.Hold.{Hold}
 use Rattle.history.specs.World.{World, world_of, cells, Free, Live, Apart, Sound, now, Lawful, Spent, bits, number_of_lem, takes, releases}
-use Rattle.history.specs.Items.{drop-lease, Item, call, foreign_step, preparation, preparation_over, salvage, salvage_over, Course, history_of, next_item, run}
+use Rattle.history.specs.Items.{drop_lease, Item, call, foreign_step, preparation, preparation_over, salvage, salvage_over, Course, history_of, next_item, run}
 use Rattle.history.specs.Statements.{answers, leaves, rescued, Begins, NoStart, Through}
 use Rattle.history.specs.Callers.{ShapeFits}
 use Rattle.laws.specs.Salvage.{differing}

@@ -5,7 +5,7 @@ use Rattle.std.proofs.Math.Decide.{dec_lt}
 use Rattle.std.proofs.Math.ListN.{get_or-append}
 use Rattle.choice.specs.Pick.{both}
 use Rattle.model.specs.Arena.{cells_of, lease_of, hold_of, bit_at, owner_at, state_at, is_live, shape_fits, health_fits}
-use Rattle.model.specs.Log.{Event, by-caller, released, Made}
+use Rattle.model.specs.Log.{Event, by_caller, released, Made}
 use Rattle.model.specs.Salvage.{Salvage, mended_table, mended_health, changes_of, entries_of, left_held, over_of, is_report_full, unsalvaged, concluded, mend_of, salvage_of}
 use Rattle.types.specs.declared.Head.{Head}
 use Rattle.types.specs.declared.Hold.{Hold}
@@ -14,7 +14,7 @@ use Rattle.types.specs.declared.SalvageAnswer.TheVariants.{Done, BadShape, Repor
 use Rattle.laws.specs.Shape.{Shaped, shaped}
 use Rattle.laws.specs.Words.{state_freed}
 use Rattle.history.specs.World.{World, world_of, cells, Live, Free, Apart, Sound, after_event, now}
-use Rattle.history.specs.Items.{drop-lease, Says, history_of, run}
+use Rattle.history.specs.Items.{drop_lease, Says, history_of, run}
 use Rattle.history.specs.Statements.{leaves, rescued}
 use Rattle.history.specs.Tests.{differ, state_held, alive, live}
 use Rattle.history.specs.Events.{Fit, fit, keep_after}

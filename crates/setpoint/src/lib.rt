@@ -6,7 +6,7 @@ ghost use Rattle.setpoint.specs.Codec.{is_finite, has_body, kind_of, word_of, by
 ghost use Rattle.setpoint.specs.Codec.{join_of, setting_of, decode_of};
 
 // A pressure in bar, a speed, a valve (true is open).
-#[derive(Drop)]
+#[derive(Clone, Copy)]
 pub enum Setpoint {
     Pressure(f32),
     Speed(u32),
@@ -14,14 +14,14 @@ pub enum Setpoint {
 }
 
 // What became of encoding.
-#[derive(Drop)]
+#[derive(Clone, Copy)]
 pub enum Encoded {
     Written,
     NotFinite,
 }
 
 // What five bytes mean: a setpoint, or none.
-#[derive(Drop)]
+#[derive(Clone, Copy)]
 pub enum Decoded {
     Setting(Setpoint),
     Damaged,

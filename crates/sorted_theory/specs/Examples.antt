@@ -1,7 +1,7 @@
 -- The statements at work in document 01's arena: "H 2, B 4, registry 0, 1, 1, first serial 1, empty script"; the boot number is 5. Their premises are met.
 use Rattle.std.specs.Prelude.{ℕ, ◌≤◌, ◌<◌, ◌≡◌, refl, List, [], ◌∷◌, ◌++◌, replicate}
 use Rattle.std.proofs.Common.{inl, inr, arith}
-use Rattle.model.specs.Log.{Event, by-caller, took}
+use Rattle.model.specs.Log.{Event, by_caller, took}
 use Rattle.model.specs.Arena.{head_of, bit_at, owner_at, waiters_at, set_cell, is_free, is_held, state_of, state_at, is_live, leases_of, holds_of, words_of, same_hold, is_in, head_fits, shape_fits, health_fits, registry_fits}
 use Rattle.model.specs.Refusals.{first}
 use Rattle.model.specs.Checks.{not_live, bad_bindings, locks_rules, not_releasable, release_rules}

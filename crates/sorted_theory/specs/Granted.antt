@@ -2,7 +2,7 @@
 use Rattle.std.specs.Prelude.{ℕ, ◌<◌, ◌≡◌, List, [], ◌∷◌, ◌++◌, ◌≢◌, length}
 use Rattle.std.proofs.Common.{sym, ap, ◌∙◌, subst, append_assoc, arith}
 use Rattle.std.proofs.Math.Decide.{dec_lt}
-use Rattle.model.specs.Log.{Made, Event, by-caller, took}
+use Rattle.model.specs.Log.{Made, Event, by_caller, took}
 use Rattle.model.specs.Arena.{holds_of, words_of}
 use Rattle.model.specs.Lock.{hold_at}
 use Rattle.model.specs.Checks.{count_in}

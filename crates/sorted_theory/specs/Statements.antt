@@ -2,7 +2,7 @@
 -- every call holds of it too (there: `lawful_always`, `counts_are`, `given_live`, `nothing_kept`, `nothing_new`, `buffer_is` and the others).
 -- `Theorems` has the proofs by name. What stands in quotes is of document 01 or 02.
 use Rattle.std.specs.Prelude.{ℕ, ◌+◌, ◌*◌, ◌≤◌, ◌<◌, ◌≡◌, List, [], ◌∷◌, ◌++◌, ◌≢◌, ◌⊎◌, ◌↔◌, length, get_or}
-use Rattle.model.specs.Log.{Made, Event, by-caller, took}
+use Rattle.model.specs.Log.{Made, Event, by_caller, took}
 use Rattle.model.specs.Arena.{last_serial, holds_of, words_of}
 use Rattle.model.specs.Refusals.{number_of}
 use Rattle.model.specs.Foreign.{steps_in}

@@ -2,7 +2,7 @@
 -- of one header and two cells.
 use Rattle.std.specs.Prelude.{ℕ, zero, suc, ◌<◌, ◌≡◌, refl, List, [], ◌∷◌, ◌++◌, ◌≢◌}
 use Rattle.std.proofs.Common.{inl, inr, arith}
-use Rattle.model.specs.Log.{Event, by-caller, by-script, took, released}
+use Rattle.model.specs.Log.{Event, by_caller, by_script, took, released}
 use Rattle.model.specs.Arena.{head_of, hold_of, holds_of, bit_at, owner_at, set_cell, set_waiters, is_free, is_held, state_of, state_at, is_live, same_hold, is_in, head_fits, shape_fits}
 use Rattle.model.specs.Foreign.{flow_of, step_take_of, step_release_of, step_waiters_of, step_health_of, step_of, run_steps_of, boundary_of}
 use Rattle.model.specs.Calls.{given, environment_of}

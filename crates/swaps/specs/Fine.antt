@@ -1,7 +1,7 @@
 -- What an event leaves of other cells, and that a legal event keeps the premise.
 use Rattle.std.specs.Prelude.{ℕ, ◌+◌, ◌*◌, ◌≤◌, ◌<◌, ◌≡◌, refl, Bool, true, false, ◌&&◌, ◌≢◌, ltb, length}
 use Rattle.std.proofs.Common.{sym, ap, ◌∙◌, arith, ltb-true}
-use Rattle.model.specs.Log.{Event, attempt-begun, boundary-run, yielded, spun, step-dropped, took, released, waiters_set, health_set, held_all_lem, added}
+use Rattle.model.specs.Log.{Event, attempt_begun, boundary_run, yielded, spun, step_dropped, took, released, waiters_set, health_set, held_all_lem, added}
 use Rattle.model.specs.Arena.{cells_of, hold_of, bit_at, owner_at, set_cell, state_of, state_at, held_by, is_live}
 use Rattle.laws.specs.Shape.{shaped}
 use Rattle.laws.specs.Words.{length_set_cell, length_set_waiters, bit_set_other, owner_set_other, bit_set_waiters, owner_set_waiters}

@@ -1,6 +1,6 @@
 -- Events in two orders: the words of the statements. An event is by the caller or by the script, so this serves the log of a call too.
 use Rattle.std.specs.Prelude.{ℕ, List, ◌∷◌, ◌≢◌}
-use Rattle.model.specs.Log.{Actor, Event, attempt-begun, boundary-run, yielded, spun, step-dropped, took, released, waiters_set, health_set, held_all_lem, added}
+use Rattle.model.specs.Log.{Actor, Event, attempt_begun, boundary_run, yielded, spun, step_dropped, took, released, waiters_set, health_set, held_all_lem, added}
 use Rattle.history.specs.World.{World, Legal, after_event}
 
 -- an event that changes nothing of the arena and is always legal; a crew's counters are no part of it

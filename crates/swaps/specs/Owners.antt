@@ -2,7 +2,7 @@
 use Rattle.std.specs.Prelude.{ℕ, zero, suc, ◌+◌, ◌*◌, ◌≤◌, ◌<◌, ◌≡◌, refl, List, [], ◌∷◌, ◌≢◌, length, set, get_or}
 use Rattle.std.proofs.Common.{sym, ap, ◌∙◌, subst, arith, eq-eqb, ne_eqb}
 use Rattle.std.proofs.Math.Decide.{ℕ_discrete, dec_lt}
-use Rattle.model.specs.Log.{Actor, Event, attempt-begun, boundary-run, yielded, spun, step-dropped, took, released, waiters_set, health_set, held_all_lem, added}
+use Rattle.model.specs.Log.{Actor, Event, attempt_begun, boundary_run, yielded, spun, step_dropped, took, released, waiters_set, health_set, held_all_lem, added}
 use Rattle.model.specs.Arena.{spent_to, cells_of, hold_of, bit_at, owner_at, waiters_at, set_cell, set_waiters, state_at}
 use Rattle.types.specs.declared.Head.{Head}
 use Rattle.laws.specs.Words.{length_set_cell, length_set_waiters, waiters_set_cell, bit_set_waiters, owner_set_waiters, waiters_set_same, waiters_set_other, Seen, here, there, see}

@@ -1,7 +1,7 @@
 -- Logs with takes exchanged too: equal up to a renaming of the serials that the log issued.
 use Rattle.std.specs.Prelude.{ℕ, ◌+◌, ◌≡◌, refl, List, [], ◌∷◌}
 use Rattle.std.proofs.Common.{sym, ap, ◌∙◌, subst, arith}
-use Rattle.model.specs.Log.{Event, attempt-begun, boundary-run, yielded, spun, step-dropped, took, released, waiters_set, health_set, held_all_lem, added}
+use Rattle.model.specs.Log.{Event, attempt_begun, boundary_run, yielded, spun, step_dropped, took, released, waiters_set, health_set, held_all_lem, added}
 use Rattle.types.specs.declared.Head.{Head}
 use Rattle.history.specs.World.{World, after_event, now, Lawful, Kind, number_of_lem}
 use Rattle.swaps.specs.Logs.{Both}

@@ -1,7 +1,7 @@
 -- With takes exchanged too, owners differ by a renaming of serials: the words of the statements.
 use Rattle.std.specs.Prelude.{ℕ, ◌+◌, ◌≤◌, ◌<◌, ◌≡◌, List, [], ◌∷◌, ◌≢◌, ◌⊎◌, eqb}
 use Rattle.choice.specs.Choice.{if◌then◌else◌}
-use Rattle.model.specs.Log.{Actor, Event, attempt-begun, boundary-run, yielded, spun, step-dropped, took, released, waiters_set, health_set, held_all_lem, added}
+use Rattle.model.specs.Log.{Actor, Event, attempt_begun, boundary_run, yielded, spun, step_dropped, took, released, waiters_set, health_set, held_all_lem, added}
 use Rattle.types.specs.declared.Hold.{Hold}
 use Rattle.history.specs.World.{World}
 use Rattle.swaps.specs.Steps.{Step, step_words, take_step, leaves, dropped, Parted}

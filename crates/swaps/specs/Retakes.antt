@@ -8,7 +8,7 @@ use Rattle.std.proofs.Math.Dec.{eqb}
 use borrow.Author.Tests.{eqb-true, eq-eqb, ltb-true}
 use Rattle.choice.specs.Pick.{same_truth}
 use Rattle.choice.specs.Choice.{if◌then◌else◌}
-use Rattle.model.specs.Log.{Event, by-script, took, released}
+use Rattle.model.specs.Log.{Event, by_script, took, released}
 use Rattle.model.specs.Arena.{hold_of, cells_of, bit_at, owner_at, is_free, is_live, is_in, same_hold, serial_remains}
 use Rattle.types.specs.declared.Head.{Head}
 use Rattle.types.specs.declared.Hold.{Hold}

@@ -1,6 +1,6 @@
 -- Scripts in two orders: the words of the statements.
 use Rattle.std.specs.Prelude.{ℕ, ◌+◌, ◌≤◌, ◌≡◌, List, [], ◌∷◌, ◌++◌, ◌≢◌, ◌⊎◌, length}
-use Rattle.history.specs.Items.{Call, environment, try_lock_lem, transactional, acquire-bucket, release_all_lem, acquire_locks, acquire_sorted}
+use Rattle.history.specs.Items.{Call, environment, try_lock_lem, transactional, acquire_bucket, release_all_lem, acquire_locks, acquire_sorted}
 use Rattle.swaps.specs.Steps.{Step, Shuffled}
 
 -- "A script is a lent run of u32, three words a step": the words of a list of steps

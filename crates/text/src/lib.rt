@@ -5,7 +5,7 @@ ghost use Rattle.io.specs.Counts.{IsPrefixLen};
 ghost use Rattle.text.specs.Text.{before, is_digit, no_number, ended_number_of, read_number_of};
 
 // A number that was read: whether one stands there, its value, and how many digits it has.
-#[derive(Drop)]
+#[derive(Clone, Copy)]
 pub struct Number {
     pub fine: bool,
     pub value: u32,

@@ -6,7 +6,7 @@ ghost use Rattle.types.specs.Numbers.{reason_number, reason_serial, number_of, c
 
 // The head: header slots H, buckets per header B, the next serial, and the boot number that its preparation was given
 // (document 02, L8). It is handed over and given back by value.
-#[derive(Drop)]
+#[derive(Clone, Copy)]
 pub struct Head {
     pub headers: u32,
     pub buckets: u32,
@@ -15,7 +15,7 @@ pub struct Head {
 }
 
 // A lease, as callers hold it: a cell, the serial that owns it, and the boot number of the head that gave it.
-#[derive(Drop)]
+#[derive(Clone, Copy)]
 pub struct Lease {
     pub cell: u32,
     pub serial: u32,
@@ -23,14 +23,14 @@ pub struct Lease {
 }
 
 // What is left of a lease where its boot number is known to be the head's: the parts of a call go by these pairs.
-#[derive(Drop)]
+#[derive(Clone, Copy)]
 pub struct Hold {
     pub cell: u32,
     pub serial: u32,
 }
 
 // What a cell's bit and owner say.
-#[derive(Drop)]
+#[derive(Clone, Copy)]
 pub enum State {
     Free,
     Held(u32),
@@ -38,14 +38,14 @@ pub enum State {
 }
 
 // The next serial, or that none remains.
-#[derive(Drop)]
+#[derive(Clone, Copy)]
 pub enum Serial {
     Issued(u32),
     Spent,
 }
 
 // What `Head::issue` hands back: the changed head, and the serial.
-#[derive(Drop)]
+#[derive(Clone, Copy)]
 pub struct Issue {
     pub head: Head,
     pub serial: Serial,
@@ -53,7 +53,7 @@ pub struct Issue {
 
 // Why it is Busy: the cell is held, by this serial; somebody waited before the compare-and-set; somebody waited after
 // it, and this serial was spent.
-#[derive(Drop)]
+#[derive(Clone, Copy)]
 pub enum Reason {
     Held(u32),
     Before,
@@ -62,7 +62,7 @@ pub enum Reason {
 
 // The sixteen refusals, with what each carries (11 carries 4,096, which is the same for all, and the reason of the last
 // attempt).
-#[derive(Drop)]
+#[derive(Clone, Copy)]
 pub enum Refusal {
     BadShape,
     BadScript,
@@ -83,14 +83,14 @@ pub enum Refusal {
 }
 
 // What the checks of a call come to.
-#[derive(Drop)]
+#[derive(Clone, Copy)]
 pub enum Check {
     Fine,
     Fault(Refusal),
 }
 
 // A call's answer. `AllGranted` and `RefusedAt` (with the key's position) are multi-lock's alone.
-#[derive(Drop)]
+#[derive(Clone, Copy)]
 pub enum Answer {
     Done,
     Cell(u32),
@@ -102,7 +102,7 @@ pub enum Answer {
 }
 
 // The four counts of a result.
-#[derive(Drop)]
+#[derive(Clone, Copy)]
 pub struct Counts {
     pub attempts: usize,
     pub boundaries: usize,
@@ -111,7 +111,7 @@ pub struct Counts {
 }
 
 // The result of a call that takes no script.
-#[derive(Drop)]
+#[derive(Clone, Copy)]
 pub struct Reply {
     pub head: Head,
     pub counts: Counts,
@@ -119,7 +119,7 @@ pub struct Reply {
 }
 
 // The result of a call that takes a script: the place it left comes with it.
-#[derive(Drop)]
+#[derive(Clone, Copy)]
 pub struct ScriptReply {
     pub head: Head,
     pub place: usize,
@@ -128,7 +128,7 @@ pub struct ScriptReply {
 }
 
 // The result of the crew's run: for each member, cells taken and cells released; moving and idle turns.
-#[derive(Drop)]
+#[derive(Clone, Copy)]
 pub struct CrewReply {
     pub head: Head,
     pub moving: usize,
@@ -141,7 +141,7 @@ pub struct CrewReply {
 // Below: what goes from part to part inside a call.
 
 // What foreign steps change besides table and health: the next serial, the script's place, the steps dropped so far.
-#[derive(Drop)]
+#[derive(Clone, Copy)]
 pub struct Flow {
     pub next: u32,
     pub place: usize,
@@ -149,14 +149,14 @@ pub struct Flow {
 }
 
 // One foreign step: the next serial after it, and 1 where it was dropped.
-#[derive(Drop)]
+#[derive(Clone, Copy)]
 pub struct Stepped {
     pub next: u32,
     pub dropped: usize,
 }
 
 // What one compare-and-set answers; Busy comes with the serial that holds the cell.
-#[derive(Drop)]
+#[derive(Clone, Copy)]
 pub enum Take {
     Granted(u32),
     Busy(u32),
@@ -165,14 +165,14 @@ pub enum Take {
 }
 
 // One compare-and-set: the next serial after it, and its answer.
-#[derive(Drop)]
+#[derive(Clone, Copy)]
 pub struct Took {
     pub next: u32,
     pub answer: Take,
 }
 
 // What an attempt comes to.
-#[derive(Drop)]
+#[derive(Clone, Copy)]
 pub enum Outcome {
     Granted(Hold),
     Busy(Reason),
@@ -180,7 +180,7 @@ pub enum Outcome {
 }
 
 // One try_lock: the flow after it, its boundaries, what it comes to.
-#[derive(Drop)]
+#[derive(Clone, Copy)]
 pub struct Locked {
     pub flow: Flow,
     pub boundaries: usize,
@@ -188,14 +188,14 @@ pub struct Locked {
 }
 
 // A key resolved: its cell, or why there is none.
-#[derive(Drop)]
+#[derive(Clone, Copy)]
 pub enum Found {
     At(u32),
     Fault(Refusal),
 }
 
 // What attempts change besides table and health.
-#[derive(Drop)]
+#[derive(Clone, Copy)]
 pub struct Run {
     pub flow: Flow,
     pub attempts: usize,
@@ -204,14 +204,14 @@ pub struct Run {
 }
 
 // Attempts made so far, and what the last one came to.
-#[derive(Drop)]
+#[derive(Clone, Copy)]
 pub struct Tried {
     pub run: Run,
     pub outcome: Outcome,
 }
 
 // What multi-lock's parts come to.
-#[derive(Drop)]
+#[derive(Clone, Copy)]
 pub struct Ended {
     pub run: Run,
     pub answer: Answer,
@@ -374,7 +374,7 @@ impl Refusal {
 }
 
 // Document 02, L6. What a salvage comes to: entries in the report and cells left held, or why nothing was changed.
-#[derive(Drop)]
+#[derive(Clone, Copy)]
 pub enum SalvageAnswer {
     Done(usize, usize),
     BadShape,
@@ -382,14 +382,14 @@ pub enum SalvageAnswer {
 }
 
 // The result of a salvage, with the head as it was given.
-#[derive(Drop)]
+#[derive(Clone, Copy)]
 pub struct SalvageReply {
     pub head: Head,
     pub answer: SalvageAnswer,
 }
 
 // What the tests of the keys come to that go position by position: the first fault, with the position that has it.
-#[derive(Drop)]
+#[derive(Clone, Copy)]
 pub enum KeyCheck {
     Fine,
     FaultAt(Refusal, usize),

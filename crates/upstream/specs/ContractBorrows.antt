@@ -10,7 +10,7 @@ use Rattle.types.specs.declared.Answer.TheVariants.{Granted, Refused}
 use Rattle.types.specs.declared.Lease.{Lease}
 use Rattle.types.specs.declared.Refusal.TheVariants.{BadScript, BadHeld, InvalidBucket, Damaged, SerialsSpent, NotHeld, Protected}
 use Rattle.history.specs.World.{World}
-use Rattle.history.specs.Items.{Call, foreign_release, drop-preserving, acquire_preserving, environment, Says, unchanged, Build}
+use Rattle.history.specs.Items.{Call, foreign_release, drop_preserving, acquire_preserving, environment, Says, unchanged, Build}
 use Rattle.history.specs.Statements.{answer_in_lem as result, world_in as final}
 use Rattle.upstream.specs.Vocabulary.{Key, cell, Authority, lease_key, lease_serial, next_serial, dom, contains_key, cells, valid, authorized, protected_valid, held_ids, leases_authorized, legal_environment, no_resurrection}
 use Rattle.upstream.specs.Premises.{Own, valid_at, keeps_valid, leases_valid, Fits, FirstBad, Short, Scripted, WholeArena, Passes, HeldGood, WellLong}

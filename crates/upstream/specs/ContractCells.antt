@@ -9,7 +9,7 @@ use Rattle.types.specs.declared.Reason.{Reason}
 use Rattle.types.specs.declared.Reason.TheVariants as reason
 use Rattle.types.specs.declared.Refusal.TheVariants.{InvalidBucket, Damaged, SerialsSpent, NotHeld}
 use Rattle.history.specs.World.{World}
-use Rattle.history.specs.Items.{try_acquire_lem, drop-lease, read-permission, competing-acquire, release-then-handoff, Says, unchanged, Build}
+use Rattle.history.specs.Items.{try_acquire_lem, drop_lease, read_permission, competing_acquire, release_then_handoff, Says, unchanged, Build}
 use Rattle.history.specs.Statements.{answer_in_lem as result, world_in as final}
 use Rattle.upstream.specs.Vocabulary.{Key, cell, Authority, lease_key, lease_serial, next_serial, dom, contains_key, cells, insert, CellsAre, answers_none, valid, authorized, framed, Acquire, Release, Observe, step}
 use Rattle.upstream.specs.Premises.{Own, valid_at, keeps_valid, Fits}

@@ -11,7 +11,7 @@ use Rattle.model.specs.Calls.{acquire_of, try_acquire_of, try_lock_of, transacti
 use Rattle.types.specs.declared.Answer.TheVariants.{Granted, Refused, Done}
 use Rattle.types.specs.declared.Refusal.TheVariants.{Poisoned}
 use Rattle.history.specs.World.{world_of}
-use Rattle.history.specs.Items.{try_acquire_lem, try_lock_lem, transactional, perform, environment, acquire-bucket, says}
+use Rattle.history.specs.Items.{try_acquire_lem, try_lock_lem, transactional, perform, environment, acquire_bucket, says}
 use Rattle.history.specs.Statements.{answers, leaves}
 use Rattle.history.specs.Tests.{held as held_by_lem}
 use Rattle.upstream.specs.Vocabulary.{cell, Authority, cells, ValidCell, valid, physical_domain}

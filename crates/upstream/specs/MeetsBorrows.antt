@@ -1,7 +1,7 @@
 -- Ours keeps each promise of `ContractBorrows` (`promise-..`); whoever keeps it meets upstream's contract
 -- (`implied-..`); so ours does (`meets-..`).
 use Rattle.model.specs.Arena.{holds_of}
-use Rattle.history.specs.Items.{foreign_release, drop-preserving, acquire_preserving, environment, perform, Build}
+use Rattle.history.specs.Items.{foreign_release, drop_preserving, acquire_preserving, environment, perform, Build}
 use Rattle.history.specs.Statements.{world_in}
 use Rattle.upstream.specs.Bridge.{valid_leases, valid_from}
 use Rattle.upstream.specs.Borrows.{acquire_preserving_borrows_e1, acquire_preserving_borrows_e2, acquire_preserving_borrows_e3, acquire_preserving_borrows_e4, acquire_preserving_borrows_e5, acquire_preserving_borrows_e6, acquire_preserving_borrows_e7, acquire_preserving_borrows_e8, acquire_preserving_borrows_e9, acquire_preserving_borrows_r1, acquire_preserving_borrows_r2, acquire_preserving_borrows_r3, acquire_too_long, drop_preserving_borrows_e1, drop_preserving_borrows_e2, drop_preserving_borrows_e3, drop_preserving_borrows_e4, drop_preserving_borrows_e5, drop_preserving_borrows_e6, drop_preserving_borrows_r1, drop_preserving_borrows_r2, drop_preserving_borrows_r3, drop_preserving_borrows_r4, drop_too_long, foreign_release_between_attempts_e1, foreign_release_between_attempts_e2, foreign_release_between_attempts_e3, foreign_release_between_attempts_e4, foreign_release_between_attempts_e5, foreign_release_between_attempts_keys, foreign_release_between_attempts_r1, foreign_release_between_attempts_r2, foreign_release_between_attempts_r3, foreign_release_between_attempts_r4, foreign_too_long}

@@ -2,7 +2,7 @@
 -- (`implied-..`); so ours does (`meets-..`).
 use Rattle.std.specs.Prelude.{refl}
 use Rattle.std.proofs.Common.{arith}
-use Rattle.history.specs.Items.{transactional, acquire-bucket, perform, Build}
+use Rattle.history.specs.Items.{transactional, acquire_bucket, perform, Build}
 use Rattle.history.specs.Statements.{world_in}
 use Rattle.upstream.specs.Bridge.{valid_from, not_le}
 use Rattle.upstream.specs.Buckets.{acquire_index_bucket_e1, acquire_index_bucket_e2, acquire_index_bucket_e3, acquire_index_bucket_e4, acquire_index_bucket_e5, acquire_index_bucket_r1, acquire_index_bucket_r2, acquire_index_bucket_r3, acquire_index_bucket_r4, yield_now_n1, guards_acquire_bucket_e1, guards_acquire_bucket_e2, guards_acquire_bucket_e3, guards_transactional_e1, guards_transactional_e2, guards_transactional_e3, transactional_try_lock_bucket_e1, transactional_try_lock_bucket_e2, transactional_try_lock_bucket_e3, transactional_try_lock_bucket_e4, transactional_try_lock_bucket_e5, transactional_try_lock_bucket_r1, transactional_try_lock_bucket_r2, transactional_try_lock_bucket_r3, transactional_try_lock_bucket_r4}

@@ -2,7 +2,7 @@
 -- (`implied-..`); so ours does (`meets-..`).
 use Rattle.std.proofs.Common.{inl, inr, arith}
 use Rattle.model.specs.Arena.{hold_in}
-use Rattle.history.specs.Items.{try_acquire_lem, drop-lease, competing-acquire, release-then-handoff, perform, Build}
+use Rattle.history.specs.Items.{try_acquire_lem, drop_lease, competing_acquire, release_then_handoff, perform, Build}
 use Rattle.history.specs.Statements.{world_in}
 use Rattle.upstream.specs.Vocabulary.{lease_key}
 use Rattle.upstream.specs.Bridge.{valid_from, framed_valid}

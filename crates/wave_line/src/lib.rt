@@ -172,7 +172,7 @@ pub fn waits(stage: Stage) -> usize
 // ---- the two lines of a change
 
 // A time line that was read: its time, 0 where none stands, and where the next line begins.
-#[derive(Drop)]
+#[derive(Clone, Copy)]
 pub struct Time {
     pub value: usize,
     pub behind: usize,

@@ -35,7 +35,7 @@ fn line_end(text: &[u8], at: usize) -> usize
 
 // Where the changes begin: the place, the number of cells, and that line's number. No cells: the text is wrong, at that
 // line.
-#[derive(Drop)]
+#[derive(Clone, Copy)]
 struct Header {
     at: usize,
     cells: usize,

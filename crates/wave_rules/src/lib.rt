@@ -3,7 +3,7 @@
 // as a computed case.
 
 // What writing comes to: how many bytes the dump has, or a refusal.
-#[derive(Drop)]
+#[derive(Clone, Copy)]
 pub enum Dumped {
     Written(usize),
     BadScript,
@@ -12,7 +12,7 @@ pub enum Dumped {
 }
 
 // What reading comes to: how many cells and how many steps, or a refusal; BadLine carries the first wrong line, from 1.
-#[derive(Drop)]
+#[derive(Clone, Copy)]
 pub enum Undumped {
     Read(usize, usize),
     BadLine(usize),
@@ -22,7 +22,7 @@ pub enum Undumped {
 // What the reader waits for: the first line; the second; a variable, or the end of them if there is one; the end of the
 // definitions; `#0`; the first value of a cell; a time line, or the end; the change at a time. Lost: a line led
 // nowhere. The numbers: of cells (so far, for Variables); the cell; the time of the last change; the time of this one.
-#[derive(Drop)]
+#[derive(Clone, Copy)]
 pub enum Stage {
     Opening,
     Scope,
@@ -36,7 +36,7 @@ pub enum Stage {
 }
 
 // The number of cells and of the last change, or the first wrong line.
-#[derive(Drop)]
+#[derive(Clone, Copy)]
 pub enum Verdict {
     Fine(usize, usize),
     Bad(usize),

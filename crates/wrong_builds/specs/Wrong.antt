@@ -3,7 +3,7 @@
 -- alone. `Falls` and `Crews` prove that each fails `Meets` of crate `pinned`, or what stands beside it. Where nothing else is said a build does as ours does.
 use Rattle.std.specs.Prelude.{ℕ, zero, suc, ◌+◌, ◌-◌, ◌/◌, ◌%◌, List, [], ◌∷◌, ◌++◌, reverse, ◌||◌, ◌&&◌, ltb, leb, eqb, length, get_or, replicate}
 use Rattle.choice.specs.Choice.{if◌then◌else◌}
-use Rattle.model.specs.Log.{Made, Event, by-caller, by-script, attempt-begun, boundary-run, yielded, spun, step-dropped, took, released, waiters_set, health_set, held_all_lem, added, gives, note, ◌>>=◌, ◌>>◌}
+use Rattle.model.specs.Log.{Made, Event, by_caller, by_script, attempt_begun, boundary_run, yielded, spun, step_dropped, took, released, waiters_set, health_set, held_all_lem, added, gives, note, ◌>>=◌, ◌>>◌}
 use Rattle.model.specs.Arena.{head_of, spent_to, lease_of, leases_of, holds_of, words_of, owner_at, set_cell, set_waiters, hold_in, lease_under}
 use Rattle.model.specs.Refusals.{Rule, number_of, carried_of, first, judge}
 use Rattle.model.specs.Answers.{kind_of, refusal_in}
@@ -27,7 +27,7 @@ use Rattle.types.specs.declared.Refusal.TheVariants as refusal
 use Rattle.types.specs.declared.Run.{Run}
 use Rattle.types.specs.declared.Tried.{Tried}
 use Rattle.history.specs.World.{World, world_of, now, caller_releases}
-use Rattle.history.specs.Items.{Call, try_acquire_lem, drop-lease, read-permission, competing-acquire, release-then-handoff, foreign_release, drop-preserving, acquire_preserving, environment, try_lock_lem, transactional, acquire-bucket, release_all_lem, acquire_locks, acquire_sorted, crew, crew_at_work_lem, asked, cell_of, script_of_lem, place_of, held_of, given_up, Says, says, unchanged, perform, foreign, Build, Stepper}
+use Rattle.history.specs.Items.{Call, try_acquire_lem, drop_lease, read_permission, competing_acquire, release_then_handoff, foreign_release, drop_preserving, acquire_preserving, environment, try_lock_lem, transactional, acquire_bucket, release_all_lem, acquire_locks, acquire_sorted, crew, crew_at_work_lem, asked, cell_of, script_of_lem, place_of, held_of, given_up, Says, says, unchanged, perform, foreign, Build, Stepper}
 use Rattle.history.specs.Statements.{CrewBuild, scripted}
 
 -- ---- the same with another answer, and the like

@@ -10,7 +10,7 @@ use Rattle.types.specs.contracts.Lease as L
 use Rattle.types.proofs.Lease.TheLaws as L'
 use Rattle.records.specs.Model.{drop_spot_of, drop_rule_of}
 use Rattle.records.specs.Laws.{drop_agrees}
-use Rattle.records.proofs.Face.{Face, SpotAt, RuleAt, face-meets}
+use Rattle.records.proofs.Face.{Face, SpotAt, RuleAt, face_meets}
 use Rattle.records.proofs.drop_spot.Symbol as spot-def
 use Rattle.records.proofs.drop_spot.Symbol.{name as #spot}
 use Rattle.records.proofs.drop_spot.Met as spot-thm

@@ -11,7 +11,7 @@ use denote.Triple.Table.{entered, cited}
 use Rattle.model.specs.Calls.{try_acquire_of}
 use Rattle.records.specs.Model.{take_spot_of, take_rule_of}
 use Rattle.records.specs.Laws.{take_agrees}
-use Rattle.records.proofs.Face.{Face, SpotAt, RuleAt, face-meets}
+use Rattle.records.proofs.Face.{Face, SpotAt, RuleAt, face_meets}
 use Rattle.records.proofs.take_spot.Symbol as spot-def
 use Rattle.records.proofs.take_spot.Symbol.{name as #spot}
 use Rattle.records.proofs.take_spot.Met as spot-thm

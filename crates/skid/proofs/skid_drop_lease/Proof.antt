@@ -16,7 +16,7 @@ same_length : tie.Need-same-length
 same_length c = search rules
 
 returns : tie.Need-returns
-returns c = rw (← c.before.before.before.before.before.head_of_lem.ensures, ← c.before.before.before.drop-lease.ensures, ← c.reply-words.ensures)
+returns c = rw (← c.before.before.before.before.before.head_of_lem.ensures, ← c.before.before.before.drop_lease.ensures, ← c.reply-words.ensures)
 
 pub skid-drop-lease-spec : {M : Type 1} → statement M
 skid-drop-lease-spec =

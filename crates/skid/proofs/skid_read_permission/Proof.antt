@@ -13,7 +13,7 @@ reply-words-requires : tie.Need-reply-words-requires
 reply-words-requires c κs = search rules
 
 returns : tie.Need-returns
-returns c = rw (← c.before.before.head_of_lem.ensures, ← c.before.read-permission.ensures, ← c.reply-words.ensures)
+returns c = rw (← c.before.before.head_of_lem.ensures, ← c.before.read_permission.ensures, ← c.reply-words.ensures)
 
 pub skid-read-permission-spec : {M : Type 1} → statement M
 skid-read-permission-spec =

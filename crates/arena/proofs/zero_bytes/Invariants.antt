@@ -1,0 +1,14 @@
+-- `arena::zero_bytes` meets its contract.
+use Prim.Native.Nat.{◌≤◌, ◌-◌}
+use mathlib.Core.Path.{◌≡◌}
+use mathlib.Core.List.{◌++◌}
+use lib.ListN.{length, replicate, drop}
+use borrow.Author.Fill.{fill_more}
+use Rattle.laws.specs.Fill.{filled}
+use Rattle.arena.proofs.zero_bytes.Given as goal
+
+abbrev pub invariant-loop-i : goal.invariant-loop-i
+invariant-loop-i l = (l.i ≤ length l.initial.bytes) × ((l.bytes ≡ replicate l.i 0 ++ drop l.i l.initial.bytes) × (length l.bytes ≡ length l.initial.bytes))
+
+abbrev pub decreases-loop-i : goal.decreases-loop-i
+decreases-loop-i l = length l.initial.bytes - l.i

@@ -1,0 +1,16 @@
+-- `text::end_of` meets its contract.
+use Prim.Native.Nat.{◌≤◌, ◌-◌, ◌+◌}
+use mathlib.Core.Path.{◌≡◌, sym, ◌∙◌}
+use native.Mathlib.Omega.{arith}
+use lib.ListN.{length, drop}
+use lib.Seq.{length-take-le}
+use borrow.Author.Tests.{eq-eqb, ne_eqb}
+use Rattle.text.specs.Text.{before}
+use Rattle.text.specs.Laws.{before_at, before_end}
+use Rattle.text.proofs.end_of.Given as goal
+
+abbrev pub invariant-loop-i : goal.invariant-loop-i
+invariant-loop-i l = (l.i ≤ length l.bytes) × (l.at ≤ l.i) × (l.i + before l.stop (drop l.i l.bytes) ≡ l.at + before l.stop (drop l.at l.bytes))
+
+abbrev pub decreases-loop-i : goal.decreases-loop-i
+decreases-loop-i l = length l.bytes - l.i
