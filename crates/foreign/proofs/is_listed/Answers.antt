@@ -1,0 +1,14 @@
+-- `foreign::is_listed` meets its contract.
+use mathlib.Core.Path.{sym}
+use native.Mathlib.Omega.{arith}
+use Rattle.foreign.specs.Marks.{unmarked, marked}
+use Rattle.foreign.proofs.is_listed.Goals as goal
+
+pub returns-then-mark-eq0 : goal.returns-then-mark-eq0
+returns-then-mark-eq0 c = let a = c.args in sym (unmarked a.marks.now a.held.now a.hold c.requires c.if-mark-eq0.true)
+
+pub overflow_cast-mark : goal.overflow_cast-mark
+overflow_cast-mark c = let a = c.args in record { fits = omega (arith, c.requires.low a.hold.cell) }
+
+pub returns : goal.returns
+returns c = let a = c.args in rw (marked a.marks.now a.held.now a.hold c.requires) c.is_in_from.ensures

@@ -1,0 +1,14 @@
+
+use Rattle.print.specs.Laws.{put_place, piece_few, after_next, form_turn, form_end}
+use Rattle.print.specs.Print.{put_of, form_from, form_of}
+use lib.ListN.{length, get_or, drop}
+use native.Mathlib.Omega.{arith}
+use mathlib.Core.Path.{◌≡◌, refl, ◌∙◌}
+use Prim.Native.Nat.{◌≤◌, ◌-◌, ◌+◌, ◌*◌}
+use Rattle.print.proofs.put_form.Given as goal
+
+abbrev pub invariant-loop-i : goal.invariant-loop-i
+invariant-loop-i l = (length l.out ≡ length l.initial.out) × (l.i ≤ length l.form) × (l.k ≤ l.i) × (l.used + 20 * (length l.form - l.i) ≤ l.at + 20 * length l.form) × (put_of l.out l.used (form_from l.numbers l.k (drop l.i l.form)) ≡ put_of l.initial.out l.at (form_from l.numbers 0 l.form))
+
+abbrev pub decreases-loop-i : goal.decreases-loop-i
+decreases-loop-i l = length l.form - l.i
