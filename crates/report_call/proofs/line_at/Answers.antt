@@ -13,8 +13,8 @@ overflow_add-at c =
 
 pub returns-then-fits : goal.returns-then-fits
 unfolding line_at
-returns-then-fits c = rw (← c.read_number-number.ensures, ← c.fits2.ensures, c.if-fits.true) c.refusal_at.ensures
+returns-then-fits c = rw (← c.read_number-number.ensures, ← c.fits.ensures, c.if-fits.true) c.refusal_at.ensures
 
 pub returns : goal.returns
 unfolding line_at
-returns c = rw (← c.read_number-number.ensures, ← c.fits2.ensures, c.if-fits.false) c.none.ensures
+returns c = rw (← c.read_number-number.ensures, ← c.fits.ensures, c.if-fits.false) c.none.ensures

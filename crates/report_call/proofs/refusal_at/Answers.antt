@@ -16,11 +16,11 @@ overflow_add-at-then-fits-2 c =
 
 pub returns-then-fits : goal.returns-then-fits
 unfolding refusal_at
-returns-then-fits c = rw (eq-eqb _ _ c.if-input-at-eq32.true, ← c.read_number-number.ensures, ← c.fits2.ensures, c.if-fits.true) c.end_at.ensures
+returns-then-fits c = rw (eq-eqb _ _ c.if-input-at-eq32.true, ← c.read_number-number.ensures, ← c.fits.ensures, c.if-fits.true) c.end_at.ensures
 
 pub returns-then-input-at-eq32 : goal.returns-then-input-at-eq32
 unfolding refusal_at
-returns-then-input-at-eq32 c = rw (eq-eqb _ _ c.if-input-at-eq32.true, ← c.read_number-number.ensures, ← c.fits2.ensures, c.if-fits.false) c.none.ensures
+returns-then-input-at-eq32 c = rw (eq-eqb _ _ c.if-input-at-eq32.true, ← c.read_number-number.ensures, ← c.fits.ensures, c.if-fits.false) c.none.ensures
 
 pub returns-then-at-input : goal.returns-then-at-input
 unfolding refusal_at
