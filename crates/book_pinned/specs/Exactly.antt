@@ -15,7 +15,7 @@ use Rattle.book_rules.specs.declared.BookRefusal.TheVariants.{BadShape, BadSlot,
 use Rattle.history.specs.Tests.{differ}
 use Rattle.pinned.specs.Words.{arena, Shape, IsLive}
 use Rattle.pinned.specs.Decided.{shape_there, shape_back, owned, owning}
-use Rattle.book_pinned.specs.Statement.{slots, newest, NotFinite, Undamaged, staying, Puts, WritesOver, Writes, BookBuild, MeetsBook}
+use Rattle.book_pinned.specs.Statement.{slots, newest, IsNotFinite, Undamaged, staying, Puts, WritesOver, Writes, BookBuild, MeetsBook}
 use Rattle.book_pinned.specs.Plain.{undamaged_there, undamaged_back}
 
 -- a live lease of this boot on the slot's cell, a finite setpoint, an undamaged book of a right length, a version left, and room for five bytes more
@@ -27,7 +27,7 @@ pub record MayWrite (h : Head) (t b : List ℕ) (slot : ℕ) (l : Lease) (s : Se
   pub this_boot : l.boot ≡ h.boot
   pub live : IsLive (arena h t []) l.cell l.serial
   pub on_slot : l.cell ≡ slot
-  pub finite : NotFinite s → ⊥
+  pub finite : IsNotFinite s → ⊥
   pub undamaged : Undamaged (slots h) b
   pub version_left : newest b slot ≢ 4_294_967_295
   pub room : 32 * slots h + 5 * staying (slots h) b slot + 5 ≤ length b

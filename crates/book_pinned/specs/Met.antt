@@ -24,7 +24,7 @@ use Rattle.book_rules.specs.declared.BookRefusal.TheVariants.{BadSlot, StaleBoot
 use Rattle.history.specs.Tests.{if_cases}
 use Rattle.pinned.specs.Words.{Is, If◌Then◌Else◌, With, arena, IsLive}
 use Rattle.pinned.specs.Decided.{Decides, shape_decides, or_decides, ltb_decides, owned, owning, leb_decides, ne_decides, not_decides}
-use Rattle.book_pinned.specs.Statement.{slots, place_in, newest, NotFinite, BodyAt, Undamaged, staying, BookBuild, BadHead, BadBook, NotHolder, PreparesBook, Puts, WritesOver, Writes, NotKept, ReadsVersion, MeetsBook}
+use Rattle.book_pinned.specs.Statement.{slots, place_in, newest, IsNotFinite, BodyAt, Undamaged, staying, BookBuild, BadHead, BadBook, NotHolder, PreparesBook, Puts, WritesOver, Writes, NotKept, ReadsVersion, MeetsBook}
 use Rattle.book_pinned.specs.Plain.{place_is, version_is, body_is, finite_decides, undamaged_there, undamaged_back, damage_decides, staying_is}
 use Rattle.book_pinned.specs.Puts.{puts_is}
 
@@ -217,7 +217,7 @@ writes_is h t b slot l s =
     judged k = judge_book k (λ r. (Refused r, b)) (written_of (newest_at b slot + 1) (put_of (slots_of h) b slot s (newest_at b slot + 1)))
 
     Finite : BookAnswer × List ℕ → Type 0
-    Finite = If◌Then◌Else◌ (NotFinite s) (Is (Refused NotFinite, b)) (WritesOver (slots h) b slot s)
+    Finite = If◌Then◌Else◌ (IsNotFinite s) (Is (Refused NotFinite, b)) (WritesOver (slots h) b slot s)
 
     Holder : BookAnswer × List ℕ → Type 0
     Holder = If◌Then◌Else◌ (NotHolder h t slot l) (Is (Refused NotHeld, b)) Finite

@@ -21,7 +21,7 @@ use Rattle.book_rules.specs.Sound.{Kept, Fits, Sound, kept_is, unkept_is, sound_
 use Rattle.book_rules.specs.Dropped.{Dropped, dropped}
 use Rattle.history.specs.Tests.{differ as apart_from}
 use Rattle.pinned.specs.Decided.{Decides, not_decides}
-use Rattle.book_pinned.specs.Statement.{place_in, length_in, version_in_lem, NotFinite, Means, BodyAt, Undamaged, Stays, differ, less, stays, sum, staying, staying_before, slid, moved}
+use Rattle.book_pinned.specs.Statement.{place_in, length_in, version_in_lem, IsNotFinite, Means, BodyAt, Undamaged, Stays, differ, less, stays, sum, staying, staying_before, slid, moved}
 
 -- ---- lines
 
@@ -110,7 +110,7 @@ body_back b p s m = go (body_is b p)
     go (inl (r, l, f)) = ap is_setting f
     go (inr (f, g)) = absurd (f s m)
 
-pub finite_decides : (s : Setpoint) → Decides (not (has_body s)) (NotFinite s)
+pub finite_decides : (s : Setpoint) → Decides (not (has_body s)) (IsNotFinite s)
 unfolding is_finite
 finite_decides (Pressure nan) = (λ e. tt, λ e. absurd (apart_from (sym e)))
 finite_decides (Pressure (inf s)) = (λ e. tt, λ e. absurd (apart_from (sym e)))

@@ -53,12 +53,12 @@ number_of_lem (Valve true) = 1
 number_of_lem (Valve false) = 0
 
 -- "A pressure that is not finite": no number, or an infinity
-abbrev pub NotFinite : Setpoint → Type 0
-NotFinite (Pressure nan) = Unit {0}
-NotFinite (Pressure (inf sign)) = Unit {0}
-NotFinite (Pressure (fin sign m e)) = ⊥
-NotFinite (Speed n) = ⊥
-NotFinite (Valve b) = ⊥
+abbrev pub IsNotFinite : Setpoint → Type 0
+IsNotFinite (Pressure nan) = Unit {0}
+IsNotFinite (Pressure (inf sign)) = Unit {0}
+IsNotFinite (Pressure (fin sign m e)) = ⊥
+IsNotFinite (Speed n) = ⊥
+IsNotFinite (Valve b) = ⊥
 
 -- what a kind and a number mean. The bits of an f32 are those of a finite one if its exponent's field is not all ones
 abbrev pub Means : (kind number : ℕ) → Setpoint → Type 0
@@ -237,7 +237,7 @@ Writes h t b slot l s =
     Else If BadBook (slots h) b ⊎ (slots h ≤ slot) Then Is (Refused BadSlot, b)
     Else If l.boot ≢ h.boot Then Is (Refused StaleBoot, b)
     Else If NotHolder h t slot l Then Is (Refused NotHeld, b)
-    Else If NotFinite s Then Is (Refused NotFinite, b)
+    Else If IsNotFinite s Then Is (Refused NotFinite, b)
     Else WritesOver (slots h) b slot s
 
 -- "Version 0 reads as NeverWritten."; L10: "NeverWritten now also answers for an older version not kept": 0, one not yet written, one that was dropped

@@ -13,7 +13,7 @@ use Rattle.book_rules.specs.Fine.{head_alone, shape_head}
 use Rattle.history.specs.World.{World, world_of, Legal, after_event, now, Lawful}
 use Rattle.history.specs.Items.{Item, call, foreign_step, preparation, preparation_over, salvage, salvage_over, Course, perform, foreign, prepared_by, preparing, salvaged_by, salvaging, next_item}
 use Rattle.history.specs.Events.{fits}
-use Rattle.history.specs.Salvages.{Came as Salvages-came, bad, full, done, came as salvage_came}
+use Rattle.history.specs.Salvages.{Came as SalvagesCame, bad, full, done, came as salvage_came}
 use Rattle.history.specs.Courses.{foreign_kept}
 use Rattle.history.specs.Theorems.{lawful_always}
 
@@ -84,7 +84,7 @@ module _ (paper : Head) (t g report list : List ℕ) (v : World) (k : Course) wh
       After : Salvage → Type 0
       After o = Fits (salvaged_by o.0.answer (world_of o.0.head o.1.0 o.1.1.0) v k).world.head
 
-      go : Salvages-came paper t g report list → After (salvage_of paper t g report list)
+      go : SalvagesCame paper t g report list → After (salvage_of paper t g report list)
       go (bad e p) = subst After (sym p) f
       go (full e i p) = subst After (sym p) f
       go (done e i p) =

@@ -45,6 +45,7 @@ in_times m (x ∷ l) i = go (counted m x l) i (in_times m l)
     go (this e f) i r = omega arith
     go (that e f) (inl p) r = absurd (e (sym p))
     go (that e f) (inr p) r = omega (arith, r p)
+in_times m [] i = elim i [ ]
 
 pub times_in : (m : ℕ) (l : List ℕ) → 1 ≤ times m l → In m l
 unfolding times
@@ -58,10 +59,12 @@ times_in m (x ∷ l) p = go (counted m x l) (times_in m l)
 pub before_last : (a b : ℕ) (l : List ℕ) → Before a b l → In b l
 before_last a b (x ∷ l) (inl e) = inr e.1
 before_last a b (x ∷ l) (inr e) = inr (before_last a b l e)
+before_last a b [] x' = elim x' [ ]
 
 pub before_first : (a b : ℕ) (l : List ℕ) → Before a b l → In a l
 before_first a b (x ∷ l) (inl e) = inl e.0
 before_first a b (x ∷ l) (inr e) = inr (before_first a b l e)
+before_first a b [] x' = elim x' [ ]
 
 -- ---- the order of a log
 

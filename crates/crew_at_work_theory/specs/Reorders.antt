@@ -63,6 +63,7 @@ in_more q m (x ∷ a) b (inr e) = inr (in_more q m a b e)
 before_middle : (q m : ℕ) (a b : List ℕ) → In q a → Before q m (a ++ (m ∷ b))
 before_middle q m (x ∷ a) b (inl e) = inl (e, in_middle m a b)
 before_middle q m (x ∷ a) b (inr e) = inr (before_middle q m a b e)
+before_middle q m [] b x' = elim x' [ ]
 
 before_more : (p q m : ℕ) (a b : List ℕ) → Before p q (a ++ b) → Before p q (a ++ (m ∷ b))
 before_more p q m [] b i = inr i

@@ -87,5 +87,7 @@ pub replay_remainders : (counts cells l big ms : List ℕ) → Remainders l big 
 unfolding replay_by whole_by
 replay_remainders counts cells l big [] r = r
 replay_remainders counts cells l big (m ∷ ms) r =
-    replay_remainders counts cells _ _ ms
+    replay_remainders counts cells
+    (raised_by summed_of (count_of counts m) (start_of counts m) cells (get_or l (named cells (start_of counts m)) 0) l)
+    (raised_by ◌+◌ (count_of counts m) (start_of counts m) cells (get_or big (named cells (start_of counts m)) 0) big) ms
     (raised_remainders (count_of counts m) (start_of counts m) cells (get_or l (named cells (start_of counts m)) 0) (get_or big (named cells (start_of counts m)) 0) l big r (r.each (named cells (start_of counts m))))

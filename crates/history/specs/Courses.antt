@@ -25,7 +25,7 @@ use Rattle.history.specs.Events.{Good, fit, lives, whole, counts}
 use Rattle.history.specs.Logs.{now_append, lawful_append, lawful_split, good_now, apart_now, arena_now, next_now, bits_now, keep_now, spent_now, Kept, ended, nothing}
 use Rattle.history.specs.Steps.{step_kept}
 use Rattle.history.specs.Calls.{call_kept}
-use Rattle.history.specs.Salvages.{Came as Salvages-came, bad, full, done, came as salvage_came, mended_good}
+use Rattle.history.specs.Salvages.{Came as SalvagesCame, bad, full, done, came as salvage_came, mended_good}
 
 -- ---- a lone foreign step
 
@@ -107,7 +107,7 @@ module _ (paper : Head) (t g report list : List ℕ) where
           (Undone o.0.answer → Stretch (course_of k.origin k.entries v))
           → Stretch (salvaged_by o.0.answer (world_of o.0.head o.1.0 o.1.1.0) v k)
 
-      go : Salvages-came paper t g report list → After (salvage_of paper t g report list)
+      go : SalvagesCame paper t g report list → After (salvage_of paper t g report list)
       go (bad f p) = subst After (sym p) (λ s. s (λ d. let q = d.2 in let z : ◌≡◌ {A = ℕ} 0 1 = cc in omega arith))
       go (full f i p) = subst After (sym p) (λ s. s (λ d. let q = d.2 in let z : ◌≡◌ {A = ℕ} 0 1 = cc in omega arith))
       go (done f i p) =
@@ -170,7 +170,7 @@ salvage_handed_back w paper report list n = go (salvage_came paper w.table w.hea
     Back : Salvage → World
     Back o = world_of w.head o.1.0 o.1.1.0
 
-    go : Salvages-came paper w.table w.health report list → Back (salvage_of paper w.table w.health report list) ≡ w
+    go : SalvagesCame paper w.table w.health report list → Back (salvage_of paper w.table w.health report list) ≡ w
     go (bad f p) = ap Back p
     go (full f i p) = ap Back p
     go (done f i p) = absurd (n (_, _, ap (λ (o : Salvage). o.0.answer) p))

@@ -251,6 +251,8 @@ mistake_not_sixteen i e = let x = (stale_is_16 granted mistake i).0 e in go x.0 
   where
     go : (l : Lease) (ahead : List Rule) (p : ℕ) → Placed granted mistake l ahead p → is_stale granted.head l ≡ true → ⊥
     go l _ _ (alone o) s = differ (ap (is_stale granted.head) o ∙ s)
+    go l _ _ (beside held o) s = elim o [ ]
+    go l _ _ (listed leases ahead i o b e) s = elim o [ ]
 
 -- `boot_stays`, `grant_is`: the day keeps its boot number, and what it grants has it
 pub boot_kept : ((leaves prepared grant).head.boot ≡ 6) × ((lease_of 2 2 6).boot ≡ prepared.head.boot)

@@ -94,6 +94,9 @@ won_of {c = c} (gained s x l) = won (hold_of c s) x l
 won_of was_busy = none_yet_lem
 won_of (was_refused r) = no_more r
 
+granted_gain : {n : ℕ} {v : World} {l : Hold} → Won n v (outcome.Granted l) → Live v l × n ≤ l.serial
+granted_gain (won l x i) = (x, i)
+
 gained_from : {n m : ℕ} {v : World} {c : ℕ} {o : Outcome} → m ≤ n → Gained n v c o → Gained m v c o
 gained_from k (gained s x l) = gained s x (omega arith)
 gained_from k was_busy = was_busy
@@ -226,8 +229,10 @@ module _ (h : Head) (script : List ℕ) where
   after_kept : (ps : List Hold) (a : Take) (f : Flow) (t g : List ℕ) (c n m : ℕ) → Fit (world_at h f.next t g)
       → Gained n (world_at h f.next t g) c (outcome_of c a) → m ≤ n
       → Locking m (world_at h f.next t g) (λ l. In ps l × (l.serial < m)) c (after_take a (given h script ps) h.buckets f t g c)
-  after_kept ps (taking.Granted s) f t g c n m good (gained u x i) l =
-      let r = late_kept ps f t g c s m good x (omega arith) in
+  after_kept ps (taking.Granted s) f t g c n m good y l =
+      let gain : Live (world_at h f.next t g) (hold_of c s) × n ≤ s = granted_gain (won_of y) in
+      let i : n ≤ s = gain.1 in
+      let r = late_kept ps f t g c s m good gain.0 (omega arith) in
       record { kept = weaken (λ k p _. (p.0, λ e. omega (arith, ap (λ (z : Hold). z.serial) e, p.1))) r.kept; gain = r.gain }
   after_kept ps (taking.Busy owner) f t g c n m good y l = record { kept = nothing; gain = was_busy }
   after_kept ps taking.Damaged f t g c n m good y l = record { kept = nothing; gain = was_refused _ }

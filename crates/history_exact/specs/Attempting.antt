@@ -32,7 +32,7 @@ use Rattle.history.specs.Steps.{With, world_at, of_run, of_tried}
 use Rattle.history.specs.Calls.{call_kept}
 use Rattle.history_exact.specs.Statements.{Passes}
 use Rattle.history_exact.specs.Script.{environment_has, transactional_has, place_in}
-use Rattle.history_exact.specs.Attempts.{Attempts, Pause, all_busy, yield, ◌and-then◌, one_busy, spin, the_last, also_yields, only_spins, BucketAttempts}
+use Rattle.history_exact.specs.Attempts.{Attempts, Pause, all_busy, yield, ◌and_then◌, one_busy, spin, the_last, also_yields, only_spins, BucketAttempts}
 use Rattle.history_exact.specs.Passing.{boundary_on, bucket_on, in_script}
 use Rattle.history_exact.specs.ScriptFacts.{place_goes}
 use Rattle.history_exact.specs.CountedOn.{on_run, run_on, tried_on, boundary_from, pause_on, retry_on}

@@ -70,8 +70,8 @@ AttemptEnds f =
 abbrev pub added_up : Counts → Counts → Counts
 added_up a b = counts_of (a.attempts + b.attempts) (a.boundaries + b.boundaries) (a.yields + b.yields) (a.dropped + b.dropped)
 
-infixr 4 ◌and-then◌
-abbrev pub ◌and-then◌ : Made (World × Says) → Made (World × Says) → Made (World × Says)
+infixr 4 ◌and_then◌
+abbrev pub ◌and_then◌ : Made (World × Says) → Made (World × Says) → Made (World × Says)
 m and_then n =
     record {
       seen = (n.seen.0, says n.seen.1.answer (added_up m.seen.1.counts n.seen.1.counts) n.seen.1.place n.seen.1.grants);

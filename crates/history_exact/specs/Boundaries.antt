@@ -22,7 +22,7 @@ use Rattle.history.specs.World.{World}
 use Rattle.history.specs.Items.{Says, perform, acquire_bucket, drop_lease, environment}
 use Rattle.history.specs.Statements.{answer_in_lem}
 use Rattle.history.specs.Judged.{performed, made_so}
-use Rattle.history_exact.specs.Attempts.{Ends, no_cell, waited, held, not_takable, poisoned, late, granted, ◌and-then◌, spin, yield, Pause, only_spins, also_yields, Attempts, all_busy, the_last, one_busy, locking, between, GivesBack, all_back, one_back, KeyByKey, all_locked, one_locked, one_refused, spins_in, BoundariesAdd, BucketBoundaries, rolled_back, LocksBoundaries}
+use Rattle.history_exact.specs.Attempts.{Ends, no_cell, waited, held, not_takable, poisoned, late, granted, ◌and_then◌, spin, yield, Pause, only_spins, also_yields, Attempts, all_busy, the_last, one_busy, locking, between, GivesBack, all_back, one_back, KeyByKey, all_locked, one_locked, one_refused, spins_in, BoundariesAdd, BucketBoundaries, rolled_back, LocksBoundaries}
 use Rattle.history_exact.specs.Retried.{spins_append, boundary_still, attempt_one}
 use Rattle.history_exact.specs.Ending.{tried_ends}
 use Rattle.history_exact.specs.Attempting.{attempting, bounding, by_steps}

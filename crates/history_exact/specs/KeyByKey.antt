@@ -41,7 +41,7 @@ use Rattle.history.specs.Steps.{With, world_at, of_run, of_tried, Won, won, none
 use Rattle.history.specs.Many.{Held, of_locks, one_more}
 use Rattle.history_exact.specs.Statements.{Passes}
 use Rattle.history_exact.specs.Script.{acquire_bucket_has, environment_has, place_in}
-use Rattle.history_exact.specs.Attempts.{added_up, ◌and-then◌, locking, dropping, between, GivesBack, all_back, one_back, refused_at_lem, KeyByKey, all_locked, one_locked, one_refused, LocksAsCalls, key_at}
+use Rattle.history_exact.specs.Attempts.{added_up, ◌and_then◌, locking, dropping, between, GivesBack, all_back, one_back, refused_at_lem, KeyByKey, all_locked, one_locked, one_refused, LocksAsCalls, key_at}
 use Rattle.history_exact.specs.Passing.{boundary_on, divides, holding_more, in_script, key_passes, leases_append}
 use Rattle.history_exact.specs.Passing as passing
 use Rattle.history_exact.specs.ScriptFacts.{place_goes}

@@ -267,7 +267,7 @@ module _ (attempt between : World → ℕ → Made (World × Says)) where
   retries_so zero (calls.one_busy why l f x more) e = absurd (omega arith)
   retries_so {i} {last} {w} {p} (suc left) (calls.one_busy {m} {n} why l f x more) e =
       subst (λ (a : Answer). AfterAttempt attempt between i (attempt w p) (λ why n. Retries attempt between left (i + 1) why (left_by n) (place_by n)) a (joined (attempt w p) (joined m n))) (sym f)
-      (m, pauses_so x, (n, retries_so left more (omega arith), refl))
+      (m, pauses_so x, (n, retries_so {i = i + 1} {last = why} {w = left_by m} {p = place_by m} left more (omega arith), refl))
 
 pub bucket_is : (w : World) (registry script : List ℕ) (place : ℕ) (held : List ℕ) (binding bucket : ℕ) → Clear (rules w (acquire_bucket registry script place held binding bucket))
     → B w (acquire_bucket registry script place held binding bucket)
@@ -306,7 +306,7 @@ module _ (boot : ℕ) (registry script held keys grants : List ℕ) where
       = ap (λ (z : List ℕ). perform w (acquire_bucket registry script place (held ++ z) (get_or keys (2 * p) 0) (get_or keys (2 * p + 1) 0))) (sym (words_same boot taken)) in
       subst (λ (z : Made (World × Says)). AfterKey perform boot registry script held keys grants p taken z (λ l. Keys perform boot registry script held keys grants left (p + 1) (taken ++ (l ∷ [])) (left_by z) (place_by z)) z.seen.1.answer (joined u n)) b
       (subst (λ (a : Answer). AfterKey perform boot registry script held keys grants p taken u (λ l. Keys perform boot registry script held keys grants left (p + 1) (taken ++ (l ∷ [])) (left_by u) (place_by u)) a (joined u n)) (sym e)
-      (n, keys_so left more (omega arith), refl))
+      (n, keys_so {p = p + 1} {taken = taken ++ (l ∷ [])} {w = left_by u} {place = place_by u} left more (omega arith), refl))
   keys_so zero (calls.one_refused r k x e back) f = absurd (omega arith)
   keys_so {p} {taken} {w} {place} (suc left) (calls.one_refused {n} r k x e back) f =
       let u = calls.locking perform boot registry script held keys grants p taken w place in

@@ -21,7 +21,7 @@ use Rattle.pinned.specs.Statements.{Passes, Meets, Crews, Works, StepsAlone, Pre
 use Rattle.pinned.specs.Met as met
 use Rattle.pinned.specs.Beside as beside
 use Rattle.pinned.specs.Salvaged as salvaged
-use Rattle.pinned.specs.AsCalls as as-calls
+use Rattle.pinned.specs.AsCalls as as_calls
 use Rattle.pinned.specs.Exactly as exactly
 use Rattle.pinned.specs.Histories as histories
 use Rattle.pinned.specs.Read as reading

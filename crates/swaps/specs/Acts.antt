@@ -126,6 +126,10 @@ legal_kept ps w e (heals i n) g take_health = refl
 legal_kept ps w e (heals i n) g release_health = refl
 legal_kept ps w e (heals i n) g waiters_health = refl
 legal_kept ps w e (heals i n) g (health_health _) = refl
+legal_kept ps w e (takes c) g (still_second x5) = elim x5 [ ]
+legal_kept ps w e (frees c s) g (still_second x6) = elim x6 [ ]
+legal_kept ps w e (waits c n) g (still_second x7) = elim x7 [ ]
+legal_kept ps w e (heals i n) g (still_second x8) = elim x8 [ ]
 
 -- nor does the event that it is
 event_kept : (w : World) (e : Event) (a : Act) → Apart e (event w a) → event (after_event w e) a ≡ event w a
@@ -138,6 +142,7 @@ event_kept w e (takes c) health_take = refl
 event_kept w e (frees c s) x = refl
 event_kept w e (waits c n) x = refl
 event_kept w e (heals i n) x = refl
+event_kept w e (takes c) (still_second x4) = elim x4 [ ]
 
 -- a step whose test holds is a legal event
 pub is_legal : (ps : List Hold) (w : World) (a : Act) → legal ps w a ≡ true → Legal w (event w a)

@@ -5,12 +5,12 @@ use Rattle.model.specs.Log.{Event, attempt_begun, boundary_run, yielded, spun, s
 use Rattle.model.specs.Arena.{cells_of, hold_of, bit_at, owner_at, set_cell, state_of, state_at, held_by, is_live}
 use Rattle.laws.specs.Shape.{shaped}
 use Rattle.laws.specs.Words.{length_set_cell, length_set_waiters, bit_set_other, owner_set_other, bit_set_waiters, owner_set_waiters}
-use Rattle.history.specs.World.{World, world_of, cells, Legal, after_event, Whole as Arena-whole}
+use Rattle.history.specs.World.{World, world_of, cells, Legal, after_event, Whole as ArenaWhole}
 use Rattle.history.specs.Tests.{Status, free, held, undamaged, state_free, state_held}
 use Rattle.history.specs.Events.{older, status_put, same_arena}
 use Rattle.swaps.specs.Steps.{Whole}
 
-pub sound_arena : (w : World) → Arena-whole w → Whole w
+pub sound_arena : (w : World) → ArenaWhole w → Whole w
 sound_arena w s = record { fits = s.fits; undamaged = s.undamaged }
 
 -- the premise as facts about numbers

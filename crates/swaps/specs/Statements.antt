@@ -7,7 +7,7 @@ use Rattle.model.specs.Foreign.{flow_of, boundary_of}
 use Rattle.model.specs.Calls.{given, environment_of}
 use Rattle.types.specs.declared.Hold.{Hold}
 use Rattle.types.specs.declared.ScriptReply.{ScriptReply}
-use Rattle.history.specs.World.{World, Live, after_event, now, Lawful, Whole as Arena-whole, Kind, number_of_lem}
+use Rattle.history.specs.World.{World, Live, after_event, now, Lawful, Whole as ArenaWhole, Kind, number_of_lem}
 use Rattle.history.specs.Items.{Call, perform, foreign_step, Item, Course, run}
 use Rattle.swaps.specs.Steps.{Whole, Step, take_step, release_step, waiters_step, health_step, leaves, dropped, on_table, exchanged, Parted, after_all, dropped_in, Shuffled}
 use Rattle.swaps.specs.Logs.{Apart, Both, Reordered}
@@ -16,7 +16,7 @@ use Rattle.swaps.specs.Scripts.{script_of, Unended, Ended, ends, Rescripted}
 
 -- the premise holds at every point of every history from a preparation or a salvage (`history`: `Ledger.whole`)
 abbrev pub SoundWhole : Type 0
-SoundWhole = (w : World) → Arena-whole w → Whole w
+SoundWhole = (w : World) → ArenaWhole w → Whole w
 
 -- ---- two foreign steps. "Releases keep their protected set fixed across the swap": one list `ps` for both orders.
 
