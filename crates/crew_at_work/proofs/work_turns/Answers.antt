@@ -28,30 +28,43 @@ begins : (c : In-loop-i)
     → let a = c.args in let m = get_or a.turns.now c.loop-i.i 0 in get_or a.starts.now m 0 ≡ start_of a.counts.now m
 begins c = c.requires.1.0.begins _ (named c)
 
-wants-few : (c : In-loop-i) → let a = c.args in get_or a.counts.now (get_or a.turns.now c.loop-i.i 0) 0 ≤ 64
-wants-few c = c.requires.0.limits.each_few _
+wants_few : (c : In-loop-i) → let a = c.args in get_or a.counts.now (get_or a.turns.now c.loop-i.i 0) 0 ≤ 64
+wants_few c = c.requires.0.limits.each_few _
 
 together : (c : In-loop-i)
     → let a = c.args in let l = c.loop-i in let m = get_or a.turns.now l.i 0 in
     get_or l.invariant.run.made m 0 + get_or l.left m 0 ≡ moves_of adds (get_or a.counts.now m 0)
 together c = c.loop-i.invariant.run.parted.together _ (few c)
 
+-- the same where it moves
+named_there : (c : After-cell_of-cell) → let a = c.args in get_or a.turns.now c.loop-i.i 0 < length a.counts.now
+named_there c = c.requires.0.named _ c.loop-i-test.true
+
+few_there : (c : After-cell_of-cell) → get_or c.args.turns.now c.loop-i.i 0 < 16
+few_there c = omega (arith, c.requires.0.named _ c.loop-i-test.true, c.requires.0.limits.few_members)
+
+begins_there : (c : After-cell_of-cell)
+    → let a = c.args in let m = get_or a.turns.now c.loop-i.i 0 in get_or a.starts.now m 0 ≡ start_of a.counts.now m
+begins_there c = c.requires.1.0.begins _ (named_there c)
+
+together_there : (c : After-cell_of-cell)
+    → let a = c.args in let l = c.loop-i in let m = get_or a.turns.now l.i 0 in
+    get_or l.invariant.run.made m 0 + get_or l.left m 0 ≡ moves_of adds (get_or a.counts.now m 0)
+together_there c = c.loop-i.invariant.run.parted.together _ (few_there c)
+
 unfinished : (c : After-cell_of-cell)
     → let a = c.args in let l = c.loop-i in let m = get_or a.turns.now l.i 0 in
     Unfinished adds a.head.headers a.head.buckets a.health.now a.counts.now a.cells.now a.turns.now (crew_start a.head a.table.now a.counters.now) l.next l.table l.left l.moving l.i l.counters l.noted (3 * get_or a.counts.now m 0 - get_or l.left m 0) (get_or a.starts.now m 0) (work_place_of (get_or a.starts.now m 0) (3 * get_or a.counts.now m 0 - get_or l.left m 0) (get_or a.counts.now m 0))
-unfinished c = let i = c in
-    record { counted = few c; so_far = omega (arith, together c); unfinished = omega (arith, c.if-more-eq0.false); begins = begins c; placed = placed_adds _ _ _ }
+unfinished c = record { counted = few_there c; so_far = omega (arith, together_there c); unfinished = omega (arith, c.if-more-eq0.false); begins = begins_there c; placed = placed_adds _ _ _ }
 
 spot_of : (c : After-cell_of-cell)
     → let a = c.args in let l = c.loop-i in let m = get_or a.turns.now l.i 0 in
     Spot a.head (length a.table.now) (length a.health.now) a.cells.now (work_place_of (get_or a.starts.now m 0) (3 * get_or a.counts.now m 0 - get_or l.left m 0) (get_or a.counts.now m 0))
-spot_of c = let i = c in
-    spot adds _ _ _ _ _ _ _ _ _ _ c.requires.0 (named c) (begins c) (unfinished c).placed (omega (arith, (unfinished c).so_far, (unfinished c).unfinished))
+spot_of c = spot adds _ _ _ _ _ _ _ _ _ _ c.requires.0 (named_there c) (begins_there c) (unfinished c).placed (omega (arith, (unfinished c).so_far, (unfinished c).unfinished))
 
 low_of : (c : After-cell_of-cell)
     → let a = c.args in Spot a.head (length a.table.now) (length a.health.now) a.cells.now (get_or a.starts.now (get_or a.turns.now c.loop-i.i 0) 0)
-low_of c = let i = c in
-    lowest_in _ _ _ _ _ _ _ _ c.requires.0 (named c) (begins c) (omega (arith, (unfinished c).so_far, (unfinished c).unfinished))
+low_of c = lowest_in _ _ _ _ _ _ _ _ c.requires.0 (named_there c) (begins_there c) (omega (arith, (unfinished c).so_far, (unfinished c).unfinished))
 
 pub loop-i-init : goal.loop-i-init
 loop-i-init c = record { run = record { made = replicate 16 0; serials = replicate 256 0; place = search rules; few = search rules; words = refl; parted = all_left adds _ _ c.other_moves-left.ensures; rest = refl }; wide = refl }
@@ -82,10 +95,10 @@ pub bounds-counts-m : goal.bounds-counts-m
 bounds-counts-m c = named (goal.at.bounds-counts-m c).In-loop-i
 
 pub overflow_cast-count : goal.overflow_cast-count
-overflow_cast-count c = omega (arith, wants-few (goal.at.overflow_cast-count c).In-loop-i)
+overflow_cast-count c = omega (arith, wants_few (goal.at.overflow_cast-count c).In-loop-i)
 
 pub overflow_mul-n : goal.overflow_mul-n
-overflow_mul-n c = omega (arith, wants-few (goal.at.overflow_mul-n c).In-loop-i)
+overflow_mul-n c = omega (arith, wants_few (goal.at.overflow_mul-n c).In-loop-i)
 
 pub overflow_sub-n : goal.overflow_sub-n
 overflow_sub-n c = omega (arith, together (goal.at.overflow_sub-n c).In-loop-i)
@@ -108,7 +121,7 @@ bounds-noted-m c = few (goal.at.bounds-noted-m c).In-loop-i
 
 pub work_move-requires : goal.work_move-requires
 work_move-requires c = let l = c.loop-i in let s = spot_of (goal.at.work_move-requires c).After-cell_of-cell in let e = c.cell_of-cell.ensures in let f = c.requires in
-    (omega (arith, s.cell_fits, l.invariant.run.words, e), (f.0.shape.some_buckets, (rw e s.header_fits, (omega (arith, s.cell_in_lem, l.invariant.wide, f.1.1, e), wants-few (goal.at.work_move-requires c).In-loop-i))))
+    (omega (arith, s.cell_fits, l.invariant.run.words, e), (f.0.shape.some_buckets, (rw e s.header_fits, (omega (arith, s.cell_in_lem, l.invariant.wide, f.1.1, e), wants_few (goal.at.work_move-requires c).In-loop-i))))
 
 pub loop-i-preserved-in-Idle : goal.loop-i-preserved-in-Idle
 loop-i-preserved-in-Idle c = add_tried _ _ _ _ _ _ _ _ _ _ _ _ _ _ c.loop-i.invariant c.loop-i-test.true _ _ _ (unfinished (goal.at.loop-i-preserved-in-Idle c).After-cell_of-cell) _ c.cell_of-cell.ensures _ _ _ c.work_move.ensures (search rules) (search rules) c.in-Idle.is
@@ -126,7 +139,7 @@ pub overflow_add-moving : goal.overflow_add-moving
 overflow_add-moving c = omega (arith, c.loop-i.invariant.run.few, c.loop-i-test.true, c.requires.0.limits.few_turns)
 
 pub overflow_add-n : goal.overflow_add-n
-overflow_add-n c = omega (arith, wants-few (goal.at.overflow_add-n c).In-loop-i)
+overflow_add-n c = omega (arith, wants_few (goal.at.overflow_add-n c).In-loop-i)
 
 pub offset_bounds-cells-start : goal.offset_bounds-cells-start
 offset_bounds-cells-start c = omega (arith, (low_of (goal.at.offset_bounds-cells-start c).After-cell_of-cell).in_run, c.requires.0.limits.cells_are, c.requires.0.limits.few_cells)
