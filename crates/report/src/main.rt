@@ -1,7 +1,12 @@
 // The acceptance report of document 02, L12: trials from standard input, the report to standard output. What is lost on
 // the way is said on standard error: nothing is printed of an input that could not be read to its end.
-ghost use Rattle.std.specs.Prelude.{◌+◌, ◌≤◌, ◌≡◌, length};
+#![tactic(auto)]
+
+ghost use Rattle.std.specs.Prelude.{◌+◌, ◌≤◌, ◌≡◌, length, IfOk};
 ghost use Rattle.io.specs.Counts.{IsPrefixLen};
+
+use std::io;
+use std::io::{Lock, Read, Write};
 
 // How much of the room the input fills, or that a read failed.
 #[derive(Clone, Copy)]
@@ -18,43 +23,32 @@ fn input_room() -> [u8; 16384]
     [0; 16384]
 }
 
-fn main() {
+fn main(rt: HostRuntime) {
     let mut input = input_room();
-    let read = read_input(&mut input);
+    let read = read_input(&mut rt.reader(), &mut input);
     match read {
-        Input::Whole(n) => print_report(&input, n),
-        Input::Lost => complain(b"report: input lost\n"),
+        Input::Whole(n) => print_report(&rt, &input, n),
+        Input::Lost => complain(&rt, b"report: input lost\n"),
     }
 }
 
-// One read behind the bytes that are there: -1 where it failed, 0 at the end of input.
-fn read_behind(input: &mut [u8], done: usize) -> isize
+// One read behind the bytes that are there: how many came, and 0 at the end of input.
+fn read_behind(reader: &mut impl Read, input: &mut [u8], done: usize) -> io::Result<usize>
     requires { done ≤ length input.old }
+    ensures { IfOk result (λ n. done + n ≤ length input.old) }
 {
-    libc::read(0, &mut input[done..])
+    reader.read(&mut input[done..])
 }
 
-// How many bytes of the room a read filled that came behind the first `done`.
-fn fresh(input: &[u8], done: usize, got: isize) -> usize
-    requires { done ≤ length input.now }
-    ensures { done + result ≤ length input.now }
-{
-    io::count(got, &input[done..])
-}
-
-// Up to the end of input or of the room. (The kit's `read_full` takes a read that fails for the end.)
-fn read_input(input: &mut [u8]) -> Input {
+// Up to the end of input or of the room. (`read_to_end` would ask for memory.)
+fn read_input(reader: &mut impl Read, input: &mut [u8]) -> Input {
     let mut done = 0;
     while done < input.len() {
-        let got = read_behind(input, done);
-        if got < 0 {
-            return Input::Lost;
+        match read_behind(reader, input, done) {
+            Ok(0) => return Input::Whole(done),
+            Ok(more) => done += more,
+            Err(_) => return Input::Lost,
         }
-        let more = fresh(input, done, got);
-        if more == 0 {
-            return Input::Whole(done);
-        }
-        done += more;
     }
     Input::Whole(done)
 }
@@ -70,24 +64,27 @@ fn within(n: usize, run: &[u8]) -> usize
 }
 
 // The room that the report asks for.
-fn print_report(input: &[u8], n: usize) {
+fn print_report(rt: &HostRuntime, input: &[u8], n: usize) {
     let mut out = [0u8; 4096];
     let most = within(n, input);
     let reported = report_call::report(&input[..most], &mut out);
     if let report_rules::Reported::Done(used) = reported {
-        write_front(&out, used);
+        write_front(rt, &out, used);
     }
 }
 
-fn write_front(out: &[u8], used: usize) {
+fn write_front(rt: &HostRuntime, out: &[u8], used: usize) {
     let most = within(used, out);
-    if io::write_all(1, &out[..most]) {
-        return;
+    match rt.stdout().lock().write_all(&out[..most]) {
+        Ok(()) => {}
+        Err(_) => complain(rt, b"report: output lost\n"),
     }
-    complain(b"report: output lost\n");
 }
 
 // A message on standard error. If that is lost too, nobody is left to tell.
-fn complain(message: &[u8]) {
-    io::write_all(2, message);
+fn complain(rt: &HostRuntime, message: &[u8]) {
+    match rt.stderr().lock().write_all(message) {
+        Ok(()) => {}
+        Err(_) => {}
+    }
 }
