@@ -1,3 +1,5 @@
+#![tactic(auto)]
+
 // The arena of document 01: a cell's three words, what they say, and preparing.
 // Functions with a `requires` are parts: calls have tested the shape, and a part tests nothing twice.
 // Parts are no calls of document 01, public ones neither: only the layers here call them (tests/layers.sh), and each

@@ -1,7 +1,7 @@
 -- The lines of a book whose bodies have slid: each used line gets its body's new place, and the bytes moved are counted. The ranks of the
 -- bodies stand by cell, as the walk of `Slide` leaves them.
 use Prim.Native.Nat.{ℕ, zero, suc, ◌+◌, ◌*◌, ◌≤◌, ◌<◌}
-use Rattle.std.specs.Prelude.{◌≡◌, Bool, ◌&&◌, eqb, length, get_or, set}
+use Rattle.std.specs.Prelude.{◌≡◌, Bool, ◌&&◌, eqb, length, get_or, set, if◌then◌else◌}
 use Rattle.std.proofs.Math.Path.{refl, ap}
 use Rattle.std.proofs.Common.{◌∙◌}
 use Rattle.std.proofs.Math.Logic.{inr}
@@ -9,7 +9,6 @@ use mathlib.Core.List.{List, [], ◌∷◌}
 use Rattle.std.proofs.Math.Bool.{true, false, not}
 use native.Mathlib.Omega.{arith}
 use Rattle.std.proofs.Math.Seq.{sets}
-use Rattle.choice.specs.Choice.{if◌then◌else◌}
 use Rattle.book_rules.specs.Layout.{lines_of, front_of, place_at, is_kept}
 use Rattle.book_rules.specs.Writing.{count, put_many, kept_of, slid_of, moved_of, if_kept, laid_of, place_bytes, compact_of}
 use Rattle.book_rules.specs.Many.{count_same, count_most, length_many, many_outside}

@@ -4,7 +4,7 @@
 use Prim.Native.Nat.{ℕ, zero, suc, ◌+◌, ◌*◌, ◌-◌, ◌%◌, ◌≤◌, ◌<◌}
 use Rattle.std.proofs.Math.Path.{◌≡◌, refl, sym, ap}
 use Rattle.std.proofs.Common.{◌∙◌, inl, inr, ext_get_or, get_or-set_other}
-use Rattle.std.specs.Prelude.{◌≢◌, ◌⊎◌, List, [], ◌∷◌, Bool, ◌&&◌, eqb, length, set, replicate}
+use Rattle.std.specs.Prelude.{◌≢◌, ◌⊎◌, List, [], ◌∷◌, Bool, ◌&&◌, eqb, length, set, replicate, if◌then◌else◌}
 use Rattle.std.proofs.Math.Bool.{true, false}
 use native.Mathlib.Omega.{arith}
 use Rattle.std.proofs.Math.Decide.{ℕ_discrete, dec_lt}
@@ -14,7 +14,6 @@ use Rattle.std.proofs.lemmas.List.Edits.{sets}
 use Rattle.std.proofs.Math.Seq.{length-sets, get_or-set_same}
 use borrow.Author.Tests.{eqb-true, eqb-false, lt-ltb, le-ltb}
 use Rattle.choice.specs.Pick.{and_false}
-use Rattle.choice.specs.Choice.{if◌then◌else◌}
 use Rattle.book_rules.specs.Layout.{five_at, lines_of, front_of, place_at, version_at, is_kept}
 use Rattle.book_rules.specs.Stores.{sets_below, sets_above, sets_in}
 use Rattle.book_rules.specs.Writing.{count, kept_of, rank_of, slid_of, erased_of, laid_of}

@@ -1,6 +1,6 @@
 -- Laws for the parts of a write: counts and the end of the last body line by line, four lines put one behind the other.
 use Prim.Native.Nat.{ℕ, suc, ◌+◌, ◌*◌, ◌≤◌, ◌<◌, max}
-use Rattle.std.specs.Prelude.{◌≡◌, refl, ◌≢◌, Bool, length, get_or}
+use Rattle.std.specs.Prelude.{◌≡◌, refl, ◌≢◌, Bool, length, get_or, if◌then◌else◌}
 use Rattle.std.proofs.Common.{sym, ◌∙◌, inl, inr, arith, get_or-set_same}
 use Rattle.std.proofs.Math.Path.{ap}
 use mathlib.Core.List.{List, [], ◌∷◌, ◌++◌}
@@ -9,7 +9,6 @@ use Rattle.std.proofs.Math.Decide.{ℕ_discrete}
 use Rattle.std.proofs.Math.ListN.{set, length-set}
 use Rattle.std.proofs.lemmas.List.Edits.{sets}
 use Rattle.std.proofs.Math.Seq.{get_or-set_other}
-use Rattle.choice.specs.Choice.{if◌then◌else◌}
 use borrow.Author.Tests.{lt-ltb, le-ltb}
 use Rattle.book_rules.specs.Layout.{lines_of, front_of, line_at, place_at, version_at, is_kept, line_of, is_sound}
 use Rattle.book_rules.specs.Writing.{count, most, drop_oldest_of, kept_of, end_of, is_crowded, is_full, append_of, put_over_of}

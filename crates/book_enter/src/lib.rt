@@ -1,3 +1,5 @@
+#![tactic(auto)]
+
 // The parts of a write on a setpoint book (document 02, L2 and L10): what stays after the drop, the drop, the room
 // behind the last body, the append. All functions are parts: a call has tested the book, and that there is room.
 ghost use Rattle.std.specs.Prelude.{◌≡◌, ◌+◌, ◌*◌, ◌≤◌, ◌<◌, true, length};

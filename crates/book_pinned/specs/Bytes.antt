@@ -1,6 +1,6 @@
 -- A done write, byte by byte: what the drop leaves, what a slide leaves, what the append leaves; together they are `Left`.
 use Prim.Native.Nat.{ℕ, zero, suc, ◌+◌, ◌*◌, ◌-◌, ◌≤◌, ◌<◌}
-use Rattle.std.specs.Prelude.{◌≡◌, ◌≢◌, Bool, replicate}
+use Rattle.std.specs.Prelude.{◌≡◌, ◌≢◌, Bool, replicate, if◌then◌else◌}
 use Rattle.std.proofs.Math.Path.{refl, ap}
 use Rattle.std.proofs.Common.{◌∙◌}
 use Rattle.std.proofs.Math.Logic.{inl, inr}
@@ -10,7 +10,6 @@ use native.Mathlib.Omega.{arith}
 use Rattle.std.proofs.Math.Decide.{ℕ_discrete, dec_lt}
 use Rattle.std.proofs.Math.ListN.{length, get_or, get_or-replicate}
 use Rattle.std.proofs.Math.Seq.{sets, length-sets}
-use Rattle.choice.specs.Choice.{if◌then◌else◌}
 use Rattle.setpoint.specs.Codec.{bytes_of, body_of}
 use Rattle.setpoint.specs.declared.Setpoint.{Setpoint}
 use Rattle.book_rules.specs.Layout.{line_at, lines_of, front_of, place_at, version_at, is_kept, line_of}

@@ -1,5 +1,5 @@
 -- The words of crates `setpoint` and `book_rules` in the plain numbers of `Statement`: lines, what five bytes mean, damage, what stays and how many.
-use Rattle.std.specs.Prelude.{ℕ, zero, suc, ◌+◌, ◌*◌, ◌-◌, ◌/◌, ◌%◌, ◌≤◌, ◌<◌, ◌≡◌, refl, ◌⊎◌, ◌≢◌, List, Bool, true, false, ◌&&◌, eqb, get_or}
+use Rattle.std.specs.Prelude.{ℕ, zero, suc, ◌+◌, ◌*◌, ◌-◌, ◌/◌, ◌%◌, ◌≤◌, ◌<◌, ◌≡◌, refl, ◌⊎◌, ◌≢◌, List, Bool, true, false, ◌&&◌, eqb, get_or, if◌then◌else◌}
 use Rattle.std.proofs.Common.{sym, ◌∙◌, inl, inr, ltb-true, ltb-false, eqb-true, eq-eqb, ne_eqb, lt-ltb, le-ltb}
 use Rattle.std.proofs.Math.Path.{ap}
 use Rattle.std.proofs.Math.Bool.{not}
@@ -9,7 +9,6 @@ use Rattle.std.proofs.Math.Dec.{ltb}
 use Rattle.std.specs.Float.{binary32, nan, inf, fin}
 use Rattle.std.specs.Float.Ieee.{of_bits}
 use Rattle.std.proofs.lemmas.Bool.{eqb-false}
-use Rattle.choice.specs.Choice.{if◌then◌else◌}
 use Rattle.setpoint.specs.Codec.{is_finite, has_body, finite_bits, setting_of, join_of, decode_of}
 use Rattle.setpoint.specs.declared.Setpoint.{Setpoint}
 use Rattle.setpoint.specs.declared.Setpoint.TheVariants.{Pressure, Speed, Valve}

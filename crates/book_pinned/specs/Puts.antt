@@ -1,6 +1,6 @@
 -- A write that is not refused does what `Statement` says: it slides exactly if it must, and leaves these bytes.
 use Prim.Native.Nat.{ℕ, zero, suc, ◌+◌, ◌*◌, ◌-◌, ◌≤◌, ◌<◌}
-use Rattle.std.specs.Prelude.{◌≡◌, ◌⊎◌, ◌≢◌, Bool, length, get_or}
+use Rattle.std.specs.Prelude.{◌≡◌, ◌⊎◌, ◌≢◌, Bool, length, get_or, if◌then◌else◌}
 use Rattle.std.proofs.Math.Path.{refl, ap}
 use Rattle.std.proofs.Common.{sym, ◌∙◌, arith}
 use Rattle.std.proofs.Math.Logic.{inl, inr}
@@ -8,7 +8,6 @@ use mathlib.Core.List.{List}
 use Rattle.std.proofs.Math.Bool.{true, false}
 use Rattle.std.proofs.Math.Decide.{ℕ_discrete, dec_lt}
 use borrow.Author.Tests.{ltb-true, ltb-false}
-use Rattle.choice.specs.Choice.{if◌then◌else◌}
 use Rattle.setpoint.specs.declared.Setpoint.{Setpoint}
 use Rattle.book_rules.specs.Layout.{lines_of, front_of, place_at, version_at, is_kept}
 use Rattle.book_rules.specs.Writing.{most, drop_oldest_of, kept_of, end_of, is_crowded, is_full, slid_of, moved_of, erased_of, place_bytes, compact_of, append_of, put_over_of, put_of}

@@ -1,9 +1,8 @@
 -- Wrong builds of the book, each with one slip in its write, and that none meets `Statement`. Each is ours but for that slip; a row names a book, and a number in
 -- which the two differ there, computed: one slot, its cell held by serial 1, a write of speed 16. What field `writes` says of that write allows ours alone.
-use Rattle.std.specs.Prelude.{ℕ, ◌+◌, ◌*◌, ◌-◌, ◌≡◌, refl, List, [], ◌∷◌, ◌++◌, eqb, length, get_or, replicate}
+use Rattle.std.specs.Prelude.{ℕ, ◌+◌, ◌*◌, ◌-◌, ◌≡◌, refl, List, [], ◌∷◌, ◌++◌, eqb, length, get_or, replicate, if◌then◌else◌}
 use Rattle.std.proofs.Common.{sym, ap, ◌∙◌, arith}
 use Rattle.std.proofs.lemmas.List.Edits.{sets}
-use Rattle.choice.specs.Choice.{if◌then◌else◌}
 use Rattle.model.specs.Arena.{head_of, lease_of, head_fits, shape_fits, bit_at, owner_at, is_free, is_held, state_of, state_at, is_live}
 use Rattle.types.specs.declared.Head.{Head}
 use Rattle.types.specs.declared.Lease.{Lease}

@@ -1,5 +1,5 @@
 -- "Writing drops the slot's oldest of four": what the drop leaves.
-use Rattle.std.specs.Prelude.{ℕ, ◌+◌, ◌*◌, ◌-◌, ◌≤◌, ◌<◌, ◌≡◌, ◌≢◌, List, Bool, length, get_or, replicate}
+use Rattle.std.specs.Prelude.{ℕ, ◌+◌, ◌*◌, ◌-◌, ◌≤◌, ◌<◌, ◌≡◌, ◌≢◌, List, Bool, length, get_or, replicate, if◌then◌else◌}
 use Rattle.std.proofs.Math.Path.{refl}
 use Rattle.std.proofs.Common.{sym, ap, ◌∙◌, inl, inr, arith}
 use Rattle.std.proofs.Math.Bool.{true, false}
@@ -7,7 +7,6 @@ use Rattle.std.proofs.Math.Decide.{ℕ_discrete, dec_lt}
 use Rattle.std.proofs.lemmas.List.{get_or-replicate}
 use Rattle.std.proofs.lemmas.List.Edits.{sets}
 use Rattle.std.proofs.Math.Seq.{length-sets}
-use Rattle.choice.specs.Choice.{if◌then◌else◌}
 use Rattle.book_rules.specs.Layout.{five_at, lines_of, front_of, place_at, length_at, version_at, is_kept, setting_at, is_setting}
 use Rattle.book_rules.specs.Stores.{sets_below, sets_above, sets_in}
 use Rattle.book_rules.specs.Writing.{drop_oldest_of}

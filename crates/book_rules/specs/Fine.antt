@@ -1,8 +1,7 @@
 -- Lists of the book's rules: how `first_fault` goes on, and what it means that all is fine.
-use Rattle.std.specs.Prelude.{ℕ, ◌*◌, ◌≤◌, ◌<◌, ◌≡◌, refl, List, [], ◌∷◌, ◌++◌, Bool, true, false, ◌&&◌, ltb, leb, eqb, length}
+use Rattle.std.specs.Prelude.{ℕ, ◌*◌, ◌≤◌, ◌<◌, ◌≡◌, refl, List, [], ◌∷◌, ◌++◌, Bool, true, false, ◌&&◌, ltb, leb, eqb, length, if◌then◌else◌}
 use Rattle.std.proofs.Common.{sym, leb-false, ltb-false, eqb-true, eq-eqb, le-ltb}
 use Rattle.std.proofs.lemmas.Bool.{not-false, lt-leb}
-use Rattle.choice.specs.Choice.{if◌then◌else◌}
 use Rattle.choice.specs.Pick.{both, neither}
 use Rattle.model.specs.Arena.{cells_of, head_fits, shape_fits, is_stale, hold_in, is_live}
 use Rattle.types.specs.declared.Head.{Head}

@@ -1,6 +1,5 @@
 -- Document 02, L2 and L10: where lines and bodies stand in the book, what they say, and what is damage.
-use Rattle.std.specs.Prelude.{ℕ, zero, suc, ◌+◌, ◌*◌, ◌-◌, ◌/◌, ◌%◌, min, List, [], ◌∷◌, Bool, true, false, not, ◌&&◌, ◌||◌, leb, eqb, length, get_or}
-use Rattle.choice.specs.Choice.{if◌then◌else◌}
+use Rattle.std.specs.Prelude.{ℕ, zero, suc, ◌+◌, ◌*◌, ◌-◌, ◌/◌, ◌%◌, min, List, [], ◌∷◌, Bool, true, false, not, ◌&&◌, ◌||◌, leb, eqb, length, get_or, if◌then◌else◌}
 use Rattle.model.specs.Arena.{cells_of}
 use Rattle.types.specs.declared.Head.{Head}
 use Rattle.setpoint.specs.Codec.{join_of, decode_of}

@@ -1,5 +1,5 @@
 -- A book that is not damaged, as facts about its lines and bodies; and that the test says just these.
-use Rattle.std.specs.Prelude.{ℕ, ◌+◌, ◌*◌, ◌-◌, ◌%◌, ◌≤◌, ◌<◌, refl, ◌≢◌, ◌⊎◌, List, Bool, not, ◌&&◌, ◌||◌, leb, get_or}
+use Rattle.std.specs.Prelude.{ℕ, ◌+◌, ◌*◌, ◌-◌, ◌%◌, ◌≤◌, ◌<◌, refl, ◌≢◌, ◌⊎◌, List, Bool, not, ◌&&◌, ◌||◌, leb, get_or, if◌then◌else◌}
 use Rattle.std.proofs.Math.Path.{◌≡◌}
 use Rattle.std.proofs.Common.{sym, ap, ◌∙◌, inl, inr, arith}
 use Rattle.std.proofs.Math.Bool.{true, false}
@@ -7,7 +7,6 @@ use Rattle.std.proofs.Math.Decide.{dec_lt}
 use Rattle.std.proofs.Math.Dec.{eqb}
 use Rattle.std.proofs.Math.ListN.{length}
 use borrow.Author.Tests.{eqb-true, eqb-false, eq-eqb, ne_eqb, leb-true, le-leb, not-true, not-false}
-use Rattle.choice.specs.Choice.{if◌then◌else◌}
 use Rattle.choice.specs.Pick.{both, or_true}
 use Rattle.setpoint.specs.Codec.{join_of}
 use Rattle.book_rules.specs.Layout.{five_at, all, lines_of, front_of, place_at, length_at, version_at, is_kept, setting_at, is_setting, is_falling, is_fitting, is_apart, is_sound}

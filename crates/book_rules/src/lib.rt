@@ -1,3 +1,5 @@
+#![tactic(auto)]
+
 // The setpoint book (document 02, L2 as amended by L10): the answers of its calls. What they mean is in specs/: L2 and
 // L10 themselves, as definitions, with computed cases, and laws about them for the calls and the theory alike.
 use setpoint::Setpoint;

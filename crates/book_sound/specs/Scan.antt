@@ -1,7 +1,7 @@
 -- A test for damage in one pass over the lines: no pair of bodies is looked at. The room behind the contents is cut into cells of five bytes. Two
 -- bodies that begin in one cell overlap, so a cell has at most one; and a body can overlap only those that begin in its own cell and in the two
 -- beside it. A mark a cell is enough: 0, or where in the cell its body begins, plus 1.
-use Rattle.std.specs.Prelude.{◌≡◌, ℕ, zero, suc, ◌+◌, ◌-◌, ◌*◌, ◌/◌, ◌%◌, ◌^◌, ◌<◌, ◌≤◌, Bool, true, false, ◌&&◌, ◌||◌, ◌≢◌, ◌⊎◌, List, length, replicate, ◌==◌, nat_le, slice_index, slice_index_or, slice_set, refl}
+use Rattle.std.specs.Prelude.{◌≡◌, ℕ, zero, suc, ◌+◌, ◌-◌, ◌*◌, ◌/◌, ◌%◌, ◌^◌, ◌<◌, ◌≤◌, Bool, true, false, ◌&&◌, ◌||◌, ◌≢◌, ◌⊎◌, List, length, replicate, ◌==◌, nat_le, slice_index, slice_index_or, slice_set, refl, if◌then◌else◌}
 use Rattle.std.proofs.Common.{ap, ◌∙◌, get_or-set_same}
 use Rattle.std.proofs.Math.Logic.{inl, inr}
 use native.Mathlib.Omega.{arith}
@@ -10,7 +10,6 @@ use Rattle.std.proofs.Math.ListN.{length-set}
 use Rattle.std.proofs.lemmas.List.{length-replicate}
 use Rattle.std.proofs.Math.Seq.{get_or-set_other}
 use borrow.Author.Tests.{eqb-true, eqb-false, eq-eqb, ne_eqb, leb-true, le-leb}
-use Rattle.choice.specs.Choice.{if◌then◌else◌}
 use Rattle.choice.specs.Pick.{both, or_true, same_truth}
 use Rattle.laws.specs.Lists.{zeros}
 use Rattle.book_rules.specs.Layout.{all, lines_of, front_of, place_at, length_at, version_at, is_kept, setting_at, is_setting, is_falling, is_fitting, is_apart, is_sound}

@@ -1,3 +1,5 @@
+#![tactic(auto)]
+
 // Whether a setpoint book is damaged (document 02, L10), in one pass over its lines, and the numbers of a line.
 // Functions with a `requires` are parts: calls have tested the head, the book's length and the slot.
 ghost use Rattle.std.specs.Prelude.{◌≡◌, ◌+◌, ◌-◌, ◌*◌, ◌<◌, ◌≤◌, length};

@@ -1,7 +1,6 @@
 -- Who writes: the holder of the slot's cell, one at a time; and of two done writes with different leases the first lease was released between.
-use Rattle.std.specs.Prelude.{ℕ, ◌+◌, ◌≡◌, refl, ◌≢◌, ◌⊎◌, List, [], ◌∷◌, ◌++◌, Bool, true, false, length}
+use Rattle.std.specs.Prelude.{ℕ, ◌+◌, ◌≡◌, refl, ◌≢◌, ◌⊎◌, List, [], ◌∷◌, ◌++◌, Bool, true, false, length, if◌then◌else◌}
 use Rattle.std.proofs.Common.{sym, ap, ◌∙◌, subst, inl, inr, append-nil, append_assoc, arith, eqb-true}
-use Rattle.choice.specs.Choice.{if◌then◌else◌}
 use Rattle.std.proofs.lemmas.Bool.{not-false}
 use Rattle.model.specs.Arena.{hold_in, owner_at}
 use Rattle.model.specs.Log.{Actor, Event, released}

@@ -1,10 +1,9 @@
 -- Laws of attempts by key: one turn of the retry loop, and what a run's counts keep.
 use Prim.Native.Nat.{ℕ, suc, ◌+◌, ◌*◌, ◌-◌, ◌/◌, ◌%◌, ◌≤◌, ◌<◌}
-use Rattle.std.specs.Prelude.{◌≡◌, List, [], ◌∷◌, eqb, get_or, length}
+use Rattle.std.specs.Prelude.{◌≡◌, List, [], ◌∷◌, eqb, get_or, length, if◌then◌else◌}
 use Rattle.std.proofs.Math.Path.{refl}
 use Rattle.std.proofs.Common.{sym, ap, ◌∙◌, mul-le-mul}
 use native.Mathlib.Omega.{arith}
-use Rattle.choice.specs.Choice.{if◌then◌else◌}
 use Rattle.model.specs.Log.{Made}
 use Rattle.model.specs.Arena.{waiters_at}
 use Rattle.model.specs.Foreign.{Setting, setting, steps_in, boundary_of}

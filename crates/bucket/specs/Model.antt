@@ -1,7 +1,6 @@
 -- What the steps by key are given: an arena whose cells can be numbered, and a binding inside the registry.
-use Rattle.std.specs.Prelude.{ℕ, ◌*◌, ◌≤◌, ◌<◌, ◌≡◌, List, get_or}
+use Rattle.std.specs.Prelude.{ℕ, ◌*◌, ◌≤◌, ◌<◌, ◌≡◌, List, get_or, if◌then◌else◌}
 use Rattle.std.proofs.Common.{arith}
-use Rattle.choice.specs.Choice.{if◌then◌else◌}
 use Rattle.model.specs.Arena.{header_of}
 use Rattle.model.specs.Foreign.{Setting}
 use Rattle.model.specs.Lock.{attempt_of, pause_of, is_busy, last_of, none_yet}

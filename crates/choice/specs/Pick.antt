@@ -1,7 +1,6 @@
 -- Choices and tests.
-use Rattle.std.specs.Prelude.{ℕ, ◌≡◌, refl, Bool, true, false, ◌&&◌, ◌||◌}
+use Rattle.std.specs.Prelude.{ℕ, ◌≡◌, refl, Bool, true, false, ◌&&◌, ◌||◌, if◌then◌else◌}
 use Rattle.std.proofs.Common.{sym, ◌∙◌, arith}
-use Rattle.choice.specs.Choice.{if◌then◌else◌}
 
 -- what holds of both holds of the choice
 pub if_both : {A : Type 0} (P : A → Type 0) (b : Bool) {x y : A} → P x → P y → P (if b then x else y)

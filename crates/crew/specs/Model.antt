@@ -1,6 +1,5 @@
 -- The crew's steps as the code makes them: a turn by numbers, what the loop over turns hands back, and the reply made of that.
-use Rattle.std.specs.Prelude.{ℕ, ◌+◌, ◌*◌, ◌-◌, ◌/◌, List, [], Bool, true, false, ltb, eqb, get_or, set}
-use Rattle.choice.specs.Choice.{if◌then◌else◌}
+use Rattle.std.specs.Prelude.{ℕ, ◌+◌, ◌*◌, ◌-◌, ◌/◌, List, [], Bool, true, false, ltb, eqb, get_or, set, if◌then◌else◌}
 use Rattle.model.specs.Arena.{spent_to, set_cell}
 use Rattle.model.specs.Foreign.{flow_of}
 use Rattle.model.specs.Crew.{Work, rests, adds, adds_of, Crew, crew_at, crew_start, moved, noted_at, added_to, turns_of, taken_of, released_of}

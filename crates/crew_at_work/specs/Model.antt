@@ -1,6 +1,5 @@
 -- The crew at work as the code makes it: its last checks, where a member stands, what is noted, and what the loop hands back.
-use Rattle.std.specs.Prelude.{ℕ, ◌+◌, ◌-◌, ◌*◌, Bool, List, ◌∷◌, ◌++◌, length, ◌==◌, nat_lt, slice_index}
-use Rattle.choice.specs.Choice.{if◌then◌else◌}
+use Rattle.std.specs.Prelude.{ℕ, ◌+◌, ◌-◌, ◌*◌, Bool, List, ◌∷◌, ◌++◌, length, ◌==◌, nat_lt, slice_index, if◌then◌else◌}
 use Rattle.model.specs.Refusals.{first}
 use Rattle.model.specs.Crew.{adds, Crew, crew_start, bad_limits, bad_lists, bad_turns, turns_of}
 use Rattle.types.specs.declared.Check.{Check}

@@ -1,10 +1,9 @@
 -- The counters after any turns are those before them with the adds of the log.
-use Rattle.std.specs.Prelude.{ℕ, ◌≡◌, Bool, length, get_or}
+use Rattle.std.specs.Prelude.{ℕ, ◌≡◌, Bool, length, get_or, if◌then◌else◌}
 use Rattle.std.proofs.Math.Path.{refl, sym, ap}
 use Rattle.std.proofs.Common.{◌∙◌, length-set}
 use mathlib.Core.List.{List, [], ◌∷◌, ◌++◌}
 use Rattle.std.proofs.Math.Bool.{true, false}
-use Rattle.choice.specs.Choice.{if◌then◌else◌}
 use Rattle.model.specs.Log.{Event, attempt_begun, boundary_run, yielded, spun, step_dropped, took, released, waiters_set, health_set, held_all_lem, added}
 use Rattle.model.specs.Crew.{Work, summed_of, Crew, moved, is_full, added_to, turn_of, turns_of}
 use Rattle.types.specs.declared.Head.{Head}

@@ -1,8 +1,7 @@
 -- Document 02, L13: what "must look one after another" says of the crew at work, as statements. `Theorems` gives their proofs by name. What
 -- is spoken of is the call's own result and its log: the order in which members came to hold all is read off the log, and so is what each
 -- member still owes.
-use Rattle.std.specs.Prelude.{ℕ, zero, suc, ◌+◌, ◌%◌, ◌≤◌, ◌<◌, ◌≡◌, List, [], ◌∷◌, ◌++◌, ◌≢◌, ◌⊎◌, eqb, length, get_or, set}
-use Rattle.choice.specs.Choice.{if◌then◌else◌}
+use Rattle.std.specs.Prelude.{ℕ, zero, suc, ◌+◌, ◌%◌, ◌≤◌, ◌<◌, ◌≡◌, List, [], ◌∷◌, ◌++◌, ◌≢◌, ◌⊎◌, eqb, length, get_or, set, if◌then◌else◌}
 use Rattle.model.specs.Log.{Event, by_caller, attempt_begun, boundary_run, yielded, spun, step_dropped, took, released, waiters_set, health_set, held_all_lem, added}
 use Rattle.model.specs.Crew.{adds, summed_of, start_of, count_of, crew_start, added_to, order_of}
 use Rattle.types.specs.declared.Answer.TheVariants.{Done}

@@ -1,9 +1,8 @@
 -- Laws of the lent lists: one turn and the end of each recursion over them.
-use Rattle.std.specs.Prelude.{ℕ, suc, ◌+◌, ◌-◌, ◌≤◌, ◌<◌, ◌≡◌, refl, List, [], ◌∷◌, Bool, true, false, not, ◌&&◌, ltb, leb, length, get_or, take, drop}
+use Rattle.std.specs.Prelude.{ℕ, suc, ◌+◌, ◌-◌, ◌≤◌, ◌<◌, ◌≡◌, refl, List, [], ◌∷◌, Bool, true, false, not, ◌&&◌, ltb, leb, length, get_or, take, drop, if◌then◌else◌}
 use Rattle.std.proofs.Math.Bool.{and-true}
 use Rattle.std.proofs.Common.{arith, drop_of_length-le, leb-true}
 use Rattle.std.proofs.lemmas.Bool.{lt-leb}
-use Rattle.choice.specs.Choice.{if◌then◌else◌}
 use Rattle.choice.specs.Pick.{both}
 use Rattle.model.specs.Refusals.{first}
 use Rattle.model.specs.Crew.{total, start_of, all_within, rises_from, bad_lists, bad_turns}

@@ -1,3 +1,5 @@
+#![tactic(auto)]
+
 // The plan of a crew's run, for document 01's and document 02's: what its limits, lists and turns must keep, and where
 // each member's list begins.
 // Functions with a `requires` are parts: the call has tested the limits, and a part tests nothing twice.

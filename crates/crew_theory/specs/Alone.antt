@@ -1,7 +1,7 @@
 -- A crew, in any work, whose members all begin with the same cell: whoever has taken it moves alone until it gives it back, so there are rounds that have
 -- at most one move each, as many as one likes.
 use Prim.Native.Nat.{ℕ, zero, suc, ◌+◌, ◌*◌, ◌≤◌, ◌<◌}
-use Rattle.std.specs.Prelude.{◌≡◌, refl, Bool, true, false, ◌≢◌, ◌⊎◌, eqb, length}
+use Rattle.std.specs.Prelude.{◌≡◌, refl, Bool, true, false, ◌≢◌, ◌⊎◌, eqb, length, if◌then◌else◌}
 use Rattle.std.proofs.Common.{sym, ◌∙◌, get_or-set_other, eqb-true}
 use Rattle.std.proofs.Math.Path.{ap}
 use mathlib.Core.List.{List, [], ◌∷◌, ◌++◌}
@@ -11,7 +11,6 @@ use native.Mathlib.Omega.{arith}
 use Rattle.std.proofs.Math.ListN.{get_or, length-append}
 use Rattle.std.proofs.Math.Seq.{get_or-set_same}
 use Rattle.std.proofs.lemmas.Bool.{eqb-false}
-use Rattle.choice.specs.Choice.{if◌then◌else◌}
 use Rattle.model.specs.Log.{Event}
 use Rattle.model.specs.Arena.{bit_at}
 use Rattle.model.specs.Crew.{Work, moves_of, start_of, count_of, Crew, turn_of, turns_of}

@@ -1,11 +1,10 @@
 -- Document 02, L3, leaves the crew as it was: a turn's try_lock has no script, so the health read after the third boundary
 -- is the health that the turn has read first, and that was 0. Here stand the steps of a lock as document 01 has them,
 -- without the second reading, only to be compared with; a Busy there has its reason too.
-use Rattle.std.specs.Prelude.{ℕ, ◌*◌, ◌≡◌, refl, List, [], ◌∷◌, ◌++◌, eqb, get_or}
+use Rattle.std.specs.Prelude.{ℕ, ◌*◌, ◌≡◌, refl, List, [], ◌∷◌, ◌++◌, eqb, get_or, if◌then◌else◌}
 use Rattle.std.proofs.Math.Path.{ap}
 use Rattle.std.proofs.Common.{eqb-true, eq-eqb}
 use Rattle.std.proofs.lemmas.Bool.{not-false}
-use Rattle.choice.specs.Choice.{if◌then◌else◌}
 use Rattle.model.specs.Log.{Made, attempt_begun, boundary_run, gives, note, ◌>>=◌, ◌>>◌}
 use Rattle.model.specs.Arena.{header_of, is_poisoned, hold_of, waiters_at}
 use Rattle.model.specs.Foreign.{Setting, setting, protecting, flow_of, run_steps_of, boundary_of}

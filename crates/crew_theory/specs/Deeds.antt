@@ -1,10 +1,9 @@
 -- What a member's own turns take, add to and release: its list, from the first place on, again for its work, and then back from the last.
-use Rattle.std.specs.Prelude.{ℕ, suc, ◌+◌, ◌-◌, min, ◌≤◌, ◌<◌, ◌≡◌, Bool, true, false, ◌≢◌, eqb, length, get_or, take, drop}
+use Rattle.std.specs.Prelude.{ℕ, suc, ◌+◌, ◌-◌, min, ◌≤◌, ◌<◌, ◌≡◌, Bool, true, false, ◌≢◌, eqb, length, get_or, take, drop, if◌then◌else◌}
 use Rattle.std.proofs.Math.Path.{refl, ap}
 use Rattle.std.proofs.Common.{sym, ◌∙◌, subst, arith, length-take, drop_of_length-le, drop-cons, get_or-take, get_or-set_same, get_or-set_other, eqb-true}
 use mathlib.Core.List.{List, [], ◌∷◌, ◌++◌, append_assoc, append-nil}
 use Rattle.std.proofs.lemmas.Bool.{eqb-false}
-use Rattle.choice.specs.Choice.{if◌then◌else◌}
 use Rattle.model.specs.Log.{Event, by_caller, took, released, held_all_lem, added}
 use Rattle.model.specs.Crew.{Work, adds_of, moves_of, total, start_of, count_of, list_of, Crew, crew_start, moved, is_full, turn_of, turns_of}
 use Rattle.types.specs.declared.Head.{Head}

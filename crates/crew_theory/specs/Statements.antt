@@ -1,8 +1,7 @@
 -- What demand 3 says, as statements over the crew's run: of document 01's, and of document 02's, at work. Both are runs of turns, `shift_of`,
 -- in a work; a statement whose name ends in `over` is of `shift_of` in any work, and the proofs, in the other files, are of that. `Theorems`
 -- gives all by name.
-use Rattle.std.specs.Prelude.{ℕ, zero, suc, ◌+◌, ◌*◌, ◌-◌, ◌/◌, ◌≤◌, ◌<◌, ◌≡◌, List, [], ◌∷◌, ◌++◌, ◌⊎◌, eqb, length, get_or, set, take}
-use Rattle.choice.specs.Choice.{if◌then◌else◌}
+use Rattle.std.specs.Prelude.{ℕ, zero, suc, ◌+◌, ◌*◌, ◌-◌, ◌/◌, ◌≤◌, ◌<◌, ◌≡◌, List, [], ◌∷◌, ◌++◌, ◌⊎◌, eqb, length, get_or, set, take, if◌then◌else◌}
 use Rattle.model.specs.Log.{Made, Event, by_caller, attempt_begun, boundary_run, yielded, spun, step_dropped, took, released, waiters_set, health_set, held_all_lem, added}
 use Rattle.model.specs.Arena.{last_serial, cells_of, spent_to, waiters_at, set_cell, state_at}
 use Rattle.model.specs.Refusals.{first}

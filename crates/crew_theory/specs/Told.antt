@@ -1,7 +1,7 @@
 -- The reply and the log agree, for every crew that is not refused, finished or not: each member's numbers are those of its own log, every
 -- turn moved or was idle, and every move is one take, one add or one
 -- release.
-use Rattle.std.specs.Prelude.{ℕ, ◌+◌, ◌-◌, min, ◌<◌, ◌≡◌, Bool, ◌≢◌, length, get_or}
+use Rattle.std.specs.Prelude.{ℕ, ◌+◌, ◌-◌, min, ◌<◌, ◌≡◌, Bool, ◌≢◌, length, get_or, if◌then◌else◌}
 use Rattle.std.proofs.Math.Path.{refl, sym, ap}
 use Rattle.std.proofs.Common.{◌∙◌, subst, length-set, get_or-set_same, get_or-set_other, eqb-true}
 use mathlib.Core.List.{List, [], ◌∷◌, ◌++◌, append-nil}
@@ -9,7 +9,6 @@ use Rattle.std.proofs.Math.Bool.{true, false}
 use native.Mathlib.Omega.{arith}
 use Rattle.std.proofs.Math.Dec.{eqb}
 use Rattle.std.proofs.lemmas.Bool.{eqb-false}
-use Rattle.choice.specs.Choice.{if◌then◌else◌}
 use Rattle.model.specs.Log.{Event, held_all_lem}
 use Rattle.model.specs.Crew.{Work, adds_of, count_of, Crew, crew_start, moved, is_full, turn_of, turns_of, shift_of}
 use Rattle.types.specs.declared.Head.{Head}

@@ -1,11 +1,10 @@
 -- Laws for the code of foreign steps: the pairs one at a time, the protected leases, one turn of a boundary, and the counts.
 use Prim.Native.Nat.{ℕ, zero, suc, ◌+◌, ◌-◌, ◌/◌, ◌≤◌, ◌<◌}
-use Rattle.std.specs.Prelude.{◌≡◌, List, [], ◌∷◌, ◌++◌, Bool, true, false, not, ◌&&◌, ◌≢◌, ltb, leb, eqb, length, get_or}
+use Rattle.std.specs.Prelude.{◌≡◌, List, [], ◌∷◌, ◌++◌, Bool, true, false, not, ◌&&◌, ◌≢◌, ltb, leb, eqb, length, get_or, if◌then◌else◌}
 use Rattle.std.proofs.Math.Path.{refl}
 use Rattle.std.proofs.Common.{sym, ap, subst, ◌∙◌, append_assoc, leb-true, ne_eqb}
 use native.Mathlib.Omega.{arith}
 use Rattle.std.proofs.Math.Decide.{ℕ_discrete}
-use Rattle.choice.specs.Choice.{if◌then◌else◌}
 use Rattle.model.specs.Log.{Made}
 use Rattle.model.specs.Arena.{serial_remains, bit_at, owner_at, hold_of, holds_of, same_hold, is_in, is_live, held_by, state_at, state_of, is_free, is_held}
 use Rattle.model.specs.Foreign.{Setting, setting, flow_of, step_release_of, step_take_of, step_waiters_of, step_health_of, step_of, run_steps_of, boundary_of, kind_at, place_at, number_at, steps_in}

@@ -1,10 +1,9 @@
 -- Marks on a list of leases: for each remainder of the cell number by 256, from where on the list can name such a cell.
 -- They spare the scan of a list for a lease whose cell no listed lease names; a scan starts at the first that can match.
-use Rattle.std.specs.Prelude.{ℕ, zero, suc, ◌+◌, ◌*◌, ◌-◌, ◌/◌, ◌%◌, ◌≤◌, ◌<◌, ◌≡◌, refl, List, Bool, true, false, ◌≢◌, ltb, length, get_or, set, drop, replicate}
+use Rattle.std.specs.Prelude.{ℕ, zero, suc, ◌+◌, ◌*◌, ◌-◌, ◌/◌, ◌%◌, ◌≤◌, ◌<◌, ◌≡◌, refl, List, Bool, true, false, ◌≢◌, ltb, length, get_or, set, drop, replicate, if◌then◌else◌}
 use Rattle.std.proofs.Common.{sym, ap, ◌∙◌, arith, get_or-set_same, get_or-set_other, ne_eqb, ltb-false}
 use Rattle.std.proofs.Math.Decide.{ℕ_discrete, dec_lt}
 use Rattle.std.proofs.lemmas.List.{get_or-replicate}
-use Rattle.choice.specs.Choice.{if◌then◌else◌}
 use Rattle.model.specs.Arena.{hold_of, holds_of, same_hold, is_in}
 use Rattle.types.specs.declared.Hold.{Hold}
 use Rattle.laws.specs.Checks.{is_in_at, is_in_end}

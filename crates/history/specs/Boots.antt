@@ -4,12 +4,11 @@ use Prim.Native.Nat.{ℕ, zero, suc, ◌+◌, ◌*◌, ◌≤◌, ◌<◌}
 use Rattle.std.proofs.Math.Path.{◌≡◌, refl, ap, subst}
 use Rattle.std.proofs.Common.{sym, ◌∙◌, ltb-true, ltb-false}
 use mathlib.Core.List.{List, [], ◌∷◌, ◌++◌, append-nil}
-use Rattle.std.specs.Prelude.{Bool, ◌⊎◌, ltb, length, take, drop}
+use Rattle.std.specs.Prelude.{Bool, ◌⊎◌, ltb, length, take, drop, if◌then◌else◌}
 use Rattle.std.proofs.Math.Bool.{true, false, not}
 use Rattle.std.proofs.Math.Logic.{inl, inr}
 use native.Mathlib.Omega.{arith}
 use Rattle.std.proofs.lemmas.Bool.{not-false}
-use Rattle.choice.specs.Choice.{if◌then◌else◌}
 use Rattle.model.specs.Log.{Made}
 use Rattle.model.specs.Arena.{cells_of, lease_of, is_stale, hold_in, is_live, lease_live, leases_of}
 use Rattle.model.specs.Refusals.{Rule, refuse◌carrying◌when◌, number_of, refusal_of, first}

@@ -1,5 +1,5 @@
 -- The crew, in either work: whatever the turns, each lease that a member noted and has not released is live, and no two of them are the same.
-use Rattle.std.specs.Prelude.{ℕ, zero, suc, ◌+◌, ◌-◌, ◌≤◌, ◌<◌, ◌≡◌, Bool, ltb, leb, eqb, length, set, replicate}
+use Rattle.std.specs.Prelude.{ℕ, zero, suc, ◌+◌, ◌-◌, ◌≤◌, ◌<◌, ◌≡◌, Bool, ltb, leb, eqb, length, set, replicate, if◌then◌else◌}
 use Rattle.std.proofs.Math.Path.{refl, ap}
 use Rattle.std.proofs.Common.{sym, ◌∙◌, subst, length-set, get_or-set_same, get_or-set_other}
 use mathlib.Core.List.{List, [], ◌∷◌, ◌++◌}
@@ -9,7 +9,6 @@ use native.Mathlib.Omega.{arith}
 use Rattle.std.proofs.Math.ListN.{get_or, get_or-eq_default}
 use Rattle.std.proofs.lemmas.List.{length-replicate}
 use borrow.Author.Tests.{ltb-true, ltb-false, leb-false}
-use Rattle.choice.specs.Choice.{if◌then◌else◌}
 use Rattle.model.specs.Log.{Made, Event, by_caller, attempt_begun, boundary_run, released, held_all_lem, added, note, gives, ◌>>◌}
 use Rattle.model.specs.Arena.{cells_of, header_of, is_poisoned, hold_of, set_cell, waiters_at, is_in}
 use Rattle.model.specs.Foreign.{flow_of, run_steps_of, boundary_of}

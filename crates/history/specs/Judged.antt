@@ -1,9 +1,8 @@
 -- How a call goes: if a check applies it is refused and nothing changes, else its steps are made. What holds of both holds of the call.
-use Rattle.std.specs.Prelude.{ℕ, ◌≡◌, refl, Bool, true, false, length}
+use Rattle.std.specs.Prelude.{ℕ, ◌≡◌, refl, Bool, true, false, length, if◌then◌else◌}
 use Rattle.std.proofs.Common.{sym, ap, ◌∙◌, arith}
 use Rattle.std.proofs.Math.Path.{subst}
 use mathlib.Core.List.{List, [], ◌∷◌, ◌++◌, append-nil}
-use Rattle.choice.specs.Choice.{if◌then◌else◌}
 use Rattle.model.specs.Log.{Made, by_caller, attempt_begun, released, gives, note, ◌>>=◌, ◌>>◌}
 use Rattle.model.specs.Arena.{spent_to, set_cell, holds_of}
 use Rattle.model.specs.Refusals.{Rule, refusal_of, first, judge}

@@ -1,5 +1,5 @@
 -- The crew's releases, in either work: each names the serial that was noted at that place of the lists when it was taken.
-use Rattle.std.specs.Prelude.{ℕ, zero, suc, ◌+◌, ◌*◌, ◌-◌, ◌≤◌, ◌<◌, ◌≡◌, Bool, ◌≢◌, ◌⊎◌, ltb, leb, length, set}
+use Rattle.std.specs.Prelude.{ℕ, zero, suc, ◌+◌, ◌*◌, ◌-◌, ◌≤◌, ◌<◌, ◌≡◌, Bool, ◌≢◌, ◌⊎◌, ltb, leb, length, set, if◌then◌else◌}
 use Rattle.std.proofs.Math.Path.{refl}
 use Rattle.std.proofs.Common.{ap, ◌∙◌, inr, length-set, get_or-set_same, get_or-set_other, ltb-true, ltb-false, leb-false}
 use mathlib.Core.List.{List, [], ◌∷◌}
@@ -8,7 +8,6 @@ use Rattle.std.proofs.Math.Logic.{inl}
 use Rattle.std.proofs.Math.Decide.{ℕ_discrete}
 use native.Mathlib.Omega.{arith}
 use Rattle.std.proofs.Math.ListN.{get_or}
-use Rattle.choice.specs.Choice.{if◌then◌else◌}
 use Rattle.model.specs.Log.{Made, held_all_lem, note, gives, ◌>>◌}
 use Rattle.model.specs.Arena.{header_of, is_poisoned}
 use Rattle.model.specs.Foreign.{setting, flow_of}

@@ -1,10 +1,9 @@
 -- The sorted call, key by key: the place of a key's cell in the sorted list, and the lease that the key is handed back. Document 02, L4: "hand back
 -- one lease per key in the caller's order, doubled keys sharing one."
-use Rattle.std.specs.Prelude.{ℕ, zero, suc, ◌+◌, ◌*◌, ◌≤◌, ◌<◌, ◌≡◌, refl, List, [], ◌∷◌, Bool, true, false, eqb, length, get_or}
+use Rattle.std.specs.Prelude.{ℕ, zero, suc, ◌+◌, ◌*◌, ◌≤◌, ◌<◌, ◌≡◌, refl, List, [], ◌∷◌, Bool, true, false, eqb, length, get_or, if◌then◌else◌}
 use Rattle.std.proofs.Common.{sym, ap, ◌∙◌, subst, arith}
 use Rattle.std.proofs.Math.Decide.{dec_lt}
 use Rattle.std.proofs.Math.Seq.{take-length}
-use Rattle.choice.specs.Choice.{if◌then◌else◌}
 use Rattle.model.specs.Log.{Made}
 use Rattle.model.specs.Arena.{holds_of}
 use Rattle.model.specs.Lock.{no_hold, hold_at, binding_at, bucket_at}

@@ -1,7 +1,6 @@
 -- What the model's tests say of a cell, of a lease and of a list of leases, as facts about numbers; and what those facts say of the tests.
-use Rattle.std.specs.Prelude.{ℕ, zero, suc, ◌+◌, ◌*◌, ◌≤◌, ◌<◌, ◌≡◌, refl, List, [], ◌∷◌, ◌++◌, Bool, true, false, ◌&&◌, ◌⊎◌, ltb, leb, eqb, length, get_or, take}
+use Rattle.std.specs.Prelude.{ℕ, zero, suc, ◌+◌, ◌*◌, ◌≤◌, ◌<◌, ◌≡◌, refl, List, [], ◌∷◌, ◌++◌, Bool, true, false, ◌&&◌, ◌⊎◌, ltb, leb, eqb, length, get_or, take, if◌then◌else◌}
 use Rattle.std.proofs.Common.{sym, ap, ◌∙◌, inl, inr, arith, ltb-true, leb-true, eqb-true, lt-ltb, le-leb, eq-eqb}
-use Rattle.choice.specs.Choice.{if◌then◌else◌}
 use Rattle.model.specs.Arena.{bit_at, owner_at, is_free, is_held, state_of, state_at, held_by, is_live, hold_of, same_hold, is_in, words_of}
 use Rattle.types.specs.declared.Hold.{Hold}
 use Rattle.types.specs.declared.State.{State}

@@ -1,12 +1,11 @@
 -- Why it is Busy: what one attempt saw, by a table of its endings, and the reasons read off it.
-use Rattle.std.specs.Prelude.{ℕ, ◌≡◌, Bool, get_or}
+use Rattle.std.specs.Prelude.{ℕ, ◌≡◌, Bool, get_or, if◌then◌else◌}
 use Rattle.std.proofs.Math.Path.{refl}
 use Rattle.std.proofs.Common.{sym, ap, ◌∙◌, arith, zero-add}
 use mathlib.Core.List.{List, [], ◌∷◌, ◌++◌, append-nil, append_assoc}
 use Rattle.std.proofs.Math.Bool.{true, false, not}
 use Rattle.std.proofs.Math.Dec.{eqb}
 use borrow.Author.Tests.{eqb-true, eqb-false}
-use Rattle.choice.specs.Choice.{if◌then◌else◌}
 use Rattle.choice.specs.Pick.{if_both}
 use Rattle.model.specs.Log.{Made, Event, by_caller, attempt_begun, took, released, gives}
 use Rattle.model.specs.Arena.{lease_of, serial_remains, header_of, hold_of, waiters_at, state_at}

@@ -1,10 +1,9 @@
 -- A definition of the model never reads what it counts: begun with other counts, it does the same and adds to them.
 use Prim.Native.Nat.{ℕ, zero, suc, ◌+◌, ◌-◌, ◌%◌}
-use Rattle.std.specs.Prelude.{◌≡◌, Bool, true, false, eqb, length, take}
+use Rattle.std.specs.Prelude.{◌≡◌, Bool, true, false, eqb, length, take, if◌then◌else◌}
 use Rattle.std.proofs.Math.Path.{refl, ap}
 use mathlib.Core.List.{List, [], ◌∷◌, ◌++◌}
 use Rattle.std.proofs.Common.{add-zero, arith}
-use Rattle.choice.specs.Choice.{if◌then◌else◌}
 use Rattle.model.specs.Log.{Made, Event, by_caller, attempt_begun, yielded, released}
 use Rattle.model.specs.Arena.{header_of, is_poisoned, hold_of, set_cell, waiters_at}
 use Rattle.model.specs.Foreign.{Setting, protecting, steps_in, kind_at, place_at, number_at, flow_of, step_of, run_steps_of, boundary_of}

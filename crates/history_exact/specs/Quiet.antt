@@ -1,6 +1,6 @@
 -- Where the script is at its end nothing happens between the steps of a call. Then a lock must lock: what each call answers, by a table.
 use Prim.Native.Nat.{ℕ, zero, suc, ◌+◌, ◌*◌, ◌-◌, ◌/◌, ◌%◌, ◌≤◌, ◌<◌}
-use Rattle.std.specs.Prelude.{◌≡◌, Bool, ◌≢◌, eqb, get_or, set}
+use Rattle.std.specs.Prelude.{◌≡◌, Bool, ◌≢◌, eqb, get_or, set, if◌then◌else◌}
 use Rattle.std.proofs.Math.Path.{refl, ap}
 use Rattle.std.proofs.Common.{sym, ◌∙◌, set-set}
 use mathlib.Core.List.{List, [], ◌∷◌}
@@ -9,7 +9,6 @@ use Rattle.std.proofs.Math.Nat.{suc-mul, zero-mul}
 use native.Mathlib.Omega.{arith}
 use Rattle.std.proofs.Math.Decide.{ℕ_discrete}
 use borrow.Author.Tests.{ltb-true, ltb-false, eqb-true, eqb-false, eq-eqb, ne_eqb}
-use Rattle.choice.specs.Choice.{if◌then◌else◌}
 use Rattle.std.proofs.lemmas.List.{set-get_or}
 use Rattle.model.specs.Log.{Made, boundary_run}
 use Rattle.model.specs.Arena.{last_serial, serial_remains, header_of, hold_of, bit_at, owner_at, waiters_at, set_cell, state_at}

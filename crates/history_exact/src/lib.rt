@@ -1,1 +1,3 @@
+#![tactic(auto)]
+
 // Theory: when a call must do what. Everything is in specs/.

@@ -1,10 +1,9 @@
 -- Lists of rules: how `first` goes on, what it means that all is fine, and one position of a list of leases at a time.
-use Rattle.std.specs.Prelude.{ℕ, zero, suc, ◌+◌, ◌*◌, ◌≤◌, ◌<◌, ◌≡◌, List, [], ◌∷◌, ◌++◌, Bool, true, false, not, ltb, length, get_or, drop}
+use Rattle.std.specs.Prelude.{ℕ, zero, suc, ◌+◌, ◌*◌, ◌≤◌, ◌<◌, ◌≡◌, List, [], ◌∷◌, ◌++◌, Bool, true, false, not, ltb, length, get_or, drop, if◌then◌else◌}
 use Rattle.std.proofs.Math.Path.{refl}
 use Rattle.std.proofs.Common.{sym, ap, ◌∙◌, arith, length-drop, eq-eqb, leb-false, ltb-true}
 use Rattle.std.proofs.lemmas.Bool.{not-false}
 pub use Rattle.choice.specs.Lists.{drop_three}
-use Rattle.choice.specs.Choice.{if◌then◌else◌}
 use Rattle.model.specs.Arena.{cells_of, lease_of, is_stale, hold_in, shape_fits, is_live, leases_of, holds_of, same_hold, is_in, held_by, state_at}
 use Rattle.model.specs.Refusals.{Rule, refusal_of, first}
 use Rattle.model.specs.Lock.{hold_at}

@@ -1,9 +1,8 @@
 -- The cell that a key names: it is in range, and its header is the key's, which was read healthy.
-use Rattle.std.specs.Prelude.{ℕ, ◌+◌, ◌*◌, ◌<◌, ◌≡◌, refl, List, Bool, true, false, leb, get_or}
+use Rattle.std.specs.Prelude.{ℕ, ◌+◌, ◌*◌, ◌<◌, ◌≡◌, refl, List, Bool, true, false, leb, get_or, if◌then◌else◌}
 use Rattle.std.proofs.Common.{sym, ap, ◌∙◌, arith, mul-le-mul_right, suc-mul, add-zero, leb-false, eqb-true}
 use Rattle.std.proofs.Math.Nat.{mul-add-div_right, div-eq_of_lt}
 use Rattle.std.proofs.lemmas.Bool.{not-false}
-use Rattle.choice.specs.Choice.{if◌then◌else◌}
 use Rattle.model.specs.Arena.{cell_number, header_of, is_poisoned}
 use Rattle.model.specs.Lock.{find_of}
 use Rattle.types.specs.declared.Found.{Found}

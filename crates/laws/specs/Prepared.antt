@@ -1,8 +1,7 @@
 -- Theorems on preparing, about the definition that `prepare` is proved to equal.
-use Rattle.std.specs.Prelude.{ℕ, ◌*◌, ◌≡◌, List, Bool, true, false, ◌&&◌, ◌↔◌, length, replicate}
+use Rattle.std.specs.Prelude.{ℕ, ◌*◌, ◌≡◌, List, Bool, true, false, ◌&&◌, ◌↔◌, length, replicate, if◌then◌else◌}
 use Rattle.std.proofs.Math.Path.{refl}
 use Rattle.std.proofs.Common.{sym, ap, ◌∙◌}
-use Rattle.choice.specs.Choice.{if◌then◌else◌}
 use Rattle.model.specs.Arena.{head_of, head_fits, shape_fits, health_fits}
 use Rattle.model.specs.Refusals.{first}
 use Rattle.model.specs.Checks.{prepare_rules}

@@ -1,7 +1,6 @@
 -- Laws of a salvage (document 02, L6): a cell's words afterwards, lengths, the number of entries, and the cells left held.
-use Rattle.std.specs.Prelude.{ℕ, zero, suc, ◌+◌, ◌*◌, ◌/◌, ◌≤◌, ◌<◌, ◌≡◌, refl, List, [], ◌∷◌, Bool, true, false, eqb, length, get_or}
+use Rattle.std.specs.Prelude.{ℕ, zero, suc, ◌+◌, ◌*◌, ◌/◌, ◌≤◌, ◌<◌, ◌≡◌, refl, List, [], ◌∷◌, Bool, true, false, eqb, length, get_or, if◌then◌else◌}
 use Rattle.std.proofs.Common.{sym, ap, ◌∙◌, arith, length-append, le-leb}
-use Rattle.choice.specs.Choice.{if◌then◌else◌}
 use Rattle.choice.specs.Pick.{if_both}
 use Rattle.model.specs.Arena.{cells_of, bit_at, owner_at, waiters_at, is_free, is_held, state_of}
 use Rattle.model.specs.Salvage.{kept_in, kept_of, mended_cell, mended_table, mended_byte, mended_health, change_of, changes_from, changes_of, entries_of, held_from, left_held}

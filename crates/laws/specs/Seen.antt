@@ -1,6 +1,5 @@
 -- What is seen of a choice.
-use Rattle.std.specs.Prelude.{◌≡◌, refl, Bool, true, false}
-use Rattle.choice.specs.Choice.{if◌then◌else◌}
+use Rattle.std.specs.Prelude.{◌≡◌, refl, Bool, true, false, if◌then◌else◌}
 use Rattle.model.specs.Log.{Made}
 
 pub seen_if : {A : Type 0} (b : Bool) (x y : Made A) → (if b then x else y).seen ≡ (if b then x.seen else y.seen)

@@ -1,3 +1,5 @@
+#![tactic(auto)]
+
 // The calls of document 01 that take no script: by cell, and by lease.
 // Functions with a `requires` are parts: calls have tested the shape, and a part tests nothing twice.
 // Parts are no calls of document 01, public ones neither: only the layers here call them (tests/layers.sh), and each

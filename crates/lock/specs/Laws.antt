@@ -1,6 +1,6 @@
 -- Laws of one try_lock: past the script's end it is the quiet one, of a healthy header; what its flow and its boundaries
 -- keep.
-use Rattle.std.specs.Prelude.{ℕ, ◌≤◌, ◌≡◌, Bool, get_or}
+use Rattle.std.specs.Prelude.{ℕ, ◌≤◌, ◌≡◌, Bool, get_or, if◌then◌else◌}
 use Rattle.std.proofs.Math.Path.{refl}
 use Rattle.std.proofs.Common.{ap, ◌∙◌}
 use mathlib.Core.List.{List, [], ◌∷◌}
@@ -8,7 +8,6 @@ use Rattle.std.proofs.Math.Bool.{true, false}
 use native.Mathlib.Omega.{arith}
 use Rattle.std.proofs.Math.Dec.{eqb}
 use borrow.Author.Tests.{eq-eqb, eqb-true}
-use Rattle.choice.specs.Choice.{if◌then◌else◌}
 use Rattle.model.specs.Log.{Made}
 use Rattle.model.specs.Arena.{hold_of, header_of, is_poisoned, waiters_at, set_cell, head_of, state_at, serial_remains}
 use Rattle.model.specs.Foreign.{Setting, protecting, flow_of, steps_in, boundary_of}

@@ -1,3 +1,5 @@
+#![tactic(auto)]
+
 // try_lock: three boundaries, the waiters read before and after, the health after, and a late release whose serial
 // stays spent.
 // Functions with a `requires` are parts: calls have tested the shape, and a part tests nothing twice.

@@ -1,6 +1,5 @@
 -- Document 01, "The arena". The head is in crate `types`, with its operations.
-use Rattle.std.specs.Prelude.{ℕ, ◌+◌, ◌*◌, ◌/◌, List, [], ◌∷◌, Bool, true, false, not, ◌&&◌, ltb, leb, eqb, get_or, set}
-use Rattle.choice.specs.Choice.{if◌then◌else◌}
+use Rattle.std.specs.Prelude.{ℕ, ◌+◌, ◌*◌, ◌/◌, List, [], ◌∷◌, Bool, true, false, not, ◌&&◌, ltb, leb, eqb, get_or, set, if◌then◌else◌}
 pub use Rattle.types.specs.Head.{last_serial, serial_remains, within, cells_of, head_of, spent_to, is_stale}
 unfoldable pub use Rattle.types.specs.Head.{head_fits, shape_fits, health_fits, issue_of}
 use Rattle.types.specs.declared.Head.{Head}

@@ -1,8 +1,7 @@
 -- Document 01, "Bench cases": the sentences marked *, as one computed list of (call, what must come out). `further` is a list of our own in
 -- the same form, for slips that no marked sentence meets; `second_reading` has the sentences of document 02, L3, `reasons` those of L1 and
 -- `at_work` those of L13, `booted` those of L8.
-use Rattle.std.specs.Prelude.{ℕ, zero, suc, ◌≡◌, refl, List, [], ◌∷◌, ◌++◌, Bool, true, ◌&&◌, ◌||◌, eqb, get_or, replicate}
-use Rattle.choice.specs.Choice.{if◌then◌else◌}
+use Rattle.std.specs.Prelude.{ℕ, zero, suc, ◌≡◌, refl, List, [], ◌∷◌, ◌++◌, Bool, true, ◌&&◌, ◌||◌, eqb, get_or, replicate, if◌then◌else◌}
 use Rattle.model.specs.Log.{Made, gives}
 use Rattle.model.specs.Arena.{head_of, lease_of, hold_of, bit_at, owner_at, waiters_at, set_cell, set_waiters, is_free, is_held, state_of, state_at, is_live, leases_of, holds_of, words_of, same_hold, is_in, head_fits, shape_fits, health_fits, registry_fits}
 use Rattle.model.specs.Refusals.{first}

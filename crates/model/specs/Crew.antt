@@ -1,7 +1,6 @@
 -- Document 01, "The crew", and document 02, L13, the crew at work: one definition, with the work as a parameter. The members' lists are
 -- lent as two runs: `counts`, how many cells each member wants, and `cells`, their lists one behind the other.
-use Rattle.std.specs.Prelude.{ℕ, zero, suc, ◌+◌, ◌*◌, ◌-◌, ◌%◌, min, List, [], ◌∷◌, ◌++◌, Bool, true, not, ◌&&◌, ◌||◌, ltb, leb, eqb, length, get_or, set, take, drop, replicate}
-use Rattle.choice.specs.Choice.{if◌then◌else◌}
+use Rattle.std.specs.Prelude.{ℕ, zero, suc, ◌+◌, ◌*◌, ◌-◌, ◌%◌, min, List, [], ◌∷◌, ◌++◌, Bool, true, not, ◌&&◌, ◌||◌, ltb, leb, eqb, length, get_or, set, take, drop, replicate, if◌then◌else◌}
 use Rattle.model.specs.Log.{Made, Event, by_caller, attempt_begun, boundary_run, yielded, spun, step_dropped, took, released, waiters_set, health_set, held_all_lem, added, gives, note, ◌>>=◌, ◌>>◌}
 use Rattle.model.specs.Arena.{within, cells_of, spent_to, header_of, is_poisoned, set_cell}
 use Rattle.model.specs.Refusals.{Rule, refuse◌carrying◌when◌, first, judge}

@@ -1,6 +1,5 @@
 -- Document 01, "Foreign steps".
-use Rattle.std.specs.Prelude.{ℕ, zero, suc, ◌+◌, ◌*◌, ◌-◌, ◌/◌, List, ◌++◌, not, ◌&&◌, ltb, leb, eqb, length, get_or, set}
-use Rattle.choice.specs.Choice.{if◌then◌else◌}
+use Rattle.std.specs.Prelude.{ℕ, zero, suc, ◌+◌, ◌*◌, ◌-◌, ◌/◌, List, ◌++◌, not, ◌&&◌, ltb, leb, eqb, length, get_or, set, if◌then◌else◌}
 use Rattle.model.specs.Log.{Made, by_script, boundary_run, step_dropped, took, released, waiters_set, health_set, gives, note, ◌>>=◌, ◌>>◌}
 use Rattle.model.specs.Arena.{serial_remains, bit_at, owner_at, set_cell, set_waiters, is_free, is_live, is_in, hold_of}
 use Rattle.types.specs.declared.Flow.{Flow}

@@ -1,7 +1,6 @@
 -- Document 01, "The steps of a lock", with document 02, L1 and L3. They test nothing that a call has tested; the calls are in
 -- `Calls`.
-use Rattle.std.specs.Prelude.{ℕ, zero, suc, ◌+◌, ◌*◌, ◌%◌, List, [], ◌∷◌, ◌++◌, Bool, true, false, leb, eqb, length, get_or, take}
-use Rattle.choice.specs.Choice.{if◌then◌else◌}
+use Rattle.std.specs.Prelude.{ℕ, zero, suc, ◌+◌, ◌*◌, ◌%◌, List, [], ◌∷◌, ◌++◌, Bool, true, false, leb, eqb, length, get_or, take, if◌then◌else◌}
 use Rattle.model.specs.Log.{Made, by_caller, attempt_begun, yielded, spun, took, released, gives, note, ◌>>=◌, ◌>>◌}
 use Rattle.model.specs.Arena.{serial_remains, cell_number, header_of, is_poisoned, waiters_at, set_cell, state_at, hold_of, lease_under, words_of}
 use Rattle.model.specs.Foreign.{Setting, protecting, flow_of, boundary_of}

@@ -1,6 +1,5 @@
 -- Document 01, "Numbers of the refusals": the table, and how a list of checks comes to a refusal. The checks themselves are in `Checks`.
-use Rattle.std.specs.Prelude.{ℕ, List, [], ◌∷◌, Bool, eqb}
-use Rattle.choice.specs.Choice.{if◌then◌else◌}
+use Rattle.std.specs.Prelude.{ℕ, List, [], ◌∷◌, Bool, eqb, if◌then◌else◌}
 pub use Rattle.types.specs.Numbers.{reason_number, reason_serial, number_of, carried_of}
 use Rattle.types.specs.declared.Check.{Check}
 use Rattle.types.specs.declared.Check.TheVariants.{Fine, Fault}

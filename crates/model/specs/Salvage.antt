@@ -1,7 +1,6 @@
 -- Document 02, L6, "Salvage after a warm restart": the arena gone over with the head that its owner holds on paper. Nothing here is a
 -- boundary or a take, so there is no log.
-use Rattle.std.specs.Prelude.{ℕ, zero, suc, ◌+◌, ◌*◌, ◌/◌, ◌≡◌, refl, List, [], ◌∷◌, ◌++◌, Bool, ◌||◌, ltb, leb, eqb, length, drop, replicate}
-use Rattle.choice.specs.Choice.{if◌then◌else◌}
+use Rattle.std.specs.Prelude.{ℕ, zero, suc, ◌+◌, ◌*◌, ◌/◌, ◌≡◌, refl, List, [], ◌∷◌, ◌++◌, Bool, ◌||◌, ltb, leb, eqb, length, drop, replicate, if◌then◌else◌}
 use Rattle.model.specs.Arena.{cells_of, head_of, bit_at, owner_at, is_free, is_held, state_of, head_fits, shape_fits, health_fits}
 use Rattle.model.specs.Refusals.{first, judge}
 use Rattle.model.specs.Checks.{prepare_rules}

@@ -1,7 +1,6 @@
 -- Keys that are free past the script's end: each is granted at its first attempt.
-use Rattle.std.specs.Prelude.{ℕ, ◌+◌, ◌*◌, ◌-◌, ◌≤◌, ◌<◌, ◌≡◌, refl, List, [], ◌∷◌, Bool, true, false, ◌&&◌, leb, eqb, get_or, length, set}
+use Rattle.std.specs.Prelude.{ℕ, ◌+◌, ◌*◌, ◌-◌, ◌≤◌, ◌<◌, ◌≡◌, refl, List, [], ◌∷◌, Bool, true, false, ◌&&◌, leb, eqb, get_or, length, set, if◌then◌else◌}
 use Rattle.std.proofs.Common.{sym, ap, ◌∙◌, arith, length-set, leb-false, ltb-true}
-use Rattle.choice.specs.Choice.{if◌then◌else◌}
 use Rattle.choice.specs.Pick.{both}
 use Rattle.model.specs.Arena.{cell_number, is_poisoned, bit_at, owner_at, waiters_at, set_cell, is_free, state_of, state_at, serial_remains, last_serial, hold_of}
 use Rattle.model.specs.Foreign.{Setting, flow_of, steps_in, protecting}

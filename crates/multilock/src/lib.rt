@@ -1,3 +1,5 @@
+#![tactic(auto)]
+
 // Multi-lock: `acquire_index_locks`, all keys or none.
 // The leases taken so far stand in an array of sixty-four pairs, passed by value with a count; a refusal rolls it back
 // from the end.

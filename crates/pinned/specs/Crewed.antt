@@ -1,6 +1,6 @@
 -- The crew's turns, in either work, are those of `Steps`.
 use Prim.Native.Nat.{ℕ, zero, suc, ◌+◌, ◌*◌, ◌-◌, ◌%◌, ◌≤◌, ◌<◌, min}
-use Rattle.std.specs.Prelude.{◌≡◌, Bool, ltb, leb, take}
+use Rattle.std.specs.Prelude.{◌≡◌, Bool, ltb, leb, take, if◌then◌else◌}
 use Rattle.std.proofs.Math.Path.{refl, ap, subst}
 use Rattle.std.proofs.Common.{sym, arith, ltb-true, ltb-false, leb-true, leb-false, eqb-true, ne_eqb}
 use mathlib.Core.List.{List, [], ◌∷◌, ◌++◌, append-nil}
@@ -9,7 +9,6 @@ use Rattle.std.proofs.Math.Logic.{inl, inr}
 use Rattle.std.proofs.Math.Dec.{eqb}
 use Rattle.std.proofs.Math.ListN.{get_or, set}
 use Rattle.std.proofs.lemmas.Bool.{eqb-false, not-true, not-false}
-use Rattle.choice.specs.Choice.{if◌then◌else◌}
 use Rattle.model.specs.Log.{Made, Event, by_caller, attempt_begun, released, held_all_lem, added, gives, note}
 use Rattle.model.specs.Arena.{spent_to, header_of, is_poisoned, set_cell}
 use Rattle.model.specs.Foreign.{flow_of}

@@ -1,13 +1,12 @@
 -- Ours meets it.
 use Prim.Native.Nat.{ℕ, zero, suc, ◌+◌, ◌*◌, ◌/◌, ◌<◌}
-use Rattle.std.specs.Prelude.{◌≡◌, Bool, false, not, leb, eqb, length, set, take}
+use Rattle.std.specs.Prelude.{◌≡◌, Bool, false, not, leb, eqb, length, set, take, if◌then◌else◌}
 use Rattle.std.proofs.Math.Path.{refl, sym, ap, subst}
 use Rattle.std.proofs.Common.{◌∙◌, inl, inr, zero-add, suc-mul, mul-le-mul_right, arith}
 use mathlib.Core.List.{List, [], ◌∷◌, ◌++◌, append-nil}
 use Rattle.std.proofs.Math.Bool.{true}
 use Rattle.std.proofs.Math.ListN.{get_or, length-set}
 use borrow.Author.Tests.{eqb-true, eqb-false, leb-true, leb-false, lt-leb, not-false}
-use Rattle.choice.specs.Choice.{if◌then◌else◌}
 use Rattle.model.specs.Log.{Made, Event, attempt_begun, by_caller, released, gives}
 use Rattle.model.specs.Arena.{spent_to, cells_of, bit_at, owner_at, state_at, is_live, set_cell, holds_of, hold_in, words_of}
 use Rattle.model.specs.Foreign.{flow_of, boundary_of}

@@ -1,6 +1,6 @@
 -- The definitions' own steps are those of `Steps`.
 use Prim.Native.Nat.{ℕ, zero, suc, ◌+◌, ◌*◌, ◌-◌, ◌/◌, ◌≤◌, ◌<◌}
-use Rattle.std.specs.Prelude.{◌≡◌, Bool, ◌&&◌, ◌≢◌, ltb, eqb, length, get_or, take}
+use Rattle.std.specs.Prelude.{◌≡◌, Bool, ◌&&◌, ◌≢◌, ltb, eqb, length, get_or, take, if◌then◌else◌}
 use Rattle.std.proofs.Math.Path.{refl}
 use Rattle.std.proofs.Common.{sym, ◌∙◌, arith}
 use mathlib.Core.List.{List, [], ◌∷◌, ◌++◌, append-nil}
@@ -8,7 +8,6 @@ use Rattle.std.proofs.Math.Bool.{true, false, not}
 use Rattle.std.proofs.Math.Logic.{inl, inr}
 use Rattle.std.proofs.Math.Dec.{leb}
 use borrow.Author.Tests.{ltb-true, ltb-false, leb-true, eqb-true, eqb-false, lt-ltb, le-leb, eq-eqb, not-true}
-use Rattle.choice.specs.Choice.{if◌then◌else◌}
 use Rattle.choice.specs.Pick.{both}
 use Rattle.model.specs.Log.{Made, gives, by_caller, by_script, attempt_begun, step_dropped, took, released, waiters_set, health_set}
 use Rattle.model.specs.Arena.{last_serial, serial_remains, spent_to, cells_of, header_of, is_poisoned, bit_at, owner_at, waiters_at, set_cell, set_waiters, state_at, is_free, is_live, is_in, hold_of}

@@ -1,7 +1,6 @@
 -- Text put into a lent run: bytes, and forms in which a `#` stands for the next number.
-use Rattle.std.specs.Prelude.{ℕ, ◌+◌, List, [], ◌∷◌, ◌++◌, eqb, length, get_or}
+use Rattle.std.specs.Prelude.{ℕ, ◌+◌, List, [], ◌∷◌, ◌++◌, eqb, length, get_or, if◌then◌else◌}
 use Rattle.std.proofs.lemmas.List.Edits.{sets}
-use Rattle.choice.specs.Choice.{if◌then◌else◌}
 use Rattle.text.specs.Decimal.{decimal_of}
 
 -- bytes put at a place: where they end, and the run, which is as it was before and behind them

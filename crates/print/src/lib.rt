@@ -1,5 +1,7 @@
 // Text put into a lent run, each function with the bytes that it puts: text, decimal numbers, forms.
 // All of these are parts of whoever prints: they ask for room, which the caller has tested.
+#![tactic(auto)]
+
 ghost use Rattle.std.specs.Prelude.{◌≡◌, ◌+◌, ◌*◌, ◌^◌, ◌<◌, ◌≤◌, length, get_or};
 ghost use Rattle.text.specs.Decimal.{digit_count, decimal_of};
 ghost use Rattle.print.specs.Print.{put_of, piece_of, after_of, form_of};

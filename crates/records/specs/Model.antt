@@ -1,7 +1,6 @@
 -- The cells as records: the table that they spell, the rules on one record, and what the two calls do with a slice of them.
 -- A reader of the promises needs `spelled` alone; the rest says how the code gets there, and `Laws` that it is document 01's.
-use Rattle.std.specs.Prelude.{ℕ, ◌*◌, List, [], ◌∷◌, leb, length, get_or, set}
-use Rattle.choice.specs.Choice.{if◌then◌else◌}
+use Rattle.std.specs.Prelude.{ℕ, ◌*◌, List, [], ◌∷◌, leb, length, get_or, set, if◌then◌else◌}
 use Rattle.model.specs.Arena.{shape_fits, state_of, is_stale, held_by, issue_of}
 use Rattle.model.specs.Lock.{outcome_of, answer_of}
 use Rattle.model.specs.Calls.{replied, refused}

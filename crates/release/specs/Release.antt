@@ -1,8 +1,7 @@
 -- `release_all`: its checks, position by position, and the leases given back from the last on.
-use Rattle.std.specs.Prelude.{ℕ, zero, suc, ◌+◌, ◌*◌, ◌-◌, ◌/◌, ◌≤◌, ◌<◌, ◌≡◌, refl, List, [], ◌∷◌, ◌++◌, false, not, ltb, length, get_or, take, drop}
+use Rattle.std.specs.Prelude.{ℕ, zero, suc, ◌+◌, ◌*◌, ◌-◌, ◌/◌, ◌≤◌, ◌<◌, ◌≡◌, refl, List, [], ◌∷◌, ◌++◌, false, not, ltb, length, get_or, take, drop, if◌then◌else◌}
 use Rattle.std.proofs.Common.{ap, ◌∙◌, arith, ltb-false}
 use Rattle.std.proofs.lemmas.Bool.{not-false}
-use Rattle.choice.specs.Choice.{if◌then◌else◌}
 use Rattle.model.specs.Arena.{cells_of, is_stale, hold_of, hold_in, holds_of, leases_of, is_live, is_in, set_cell}
 use Rattle.model.specs.Refusals.{Rule, first}
 use Rattle.model.specs.Checks.{lease_count, is_uneven, bad_shape, bad_health, bad_script, too_many_leases, not_releasable, release_rules}

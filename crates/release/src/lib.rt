@@ -1,3 +1,5 @@
+#![tactic(auto)]
+
 // Giving back: `release_all`, last first with a boundary after each release, and its parts, on which multi-lock's
 // rollback stands too.
 // Functions with a `requires` are parts: calls have tested the shape, and a part tests nothing twice.

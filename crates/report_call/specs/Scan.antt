@@ -1,6 +1,5 @@
 -- What one pass over the input leaves: the sums, and the counts by number. `Laws` proves that these are the sums over the trials that were read.
-use Rattle.std.specs.Prelude.{ℕ, zero, suc, ◌+◌, ◌*◌, ◌≤◌, ◌≡◌, List, ◌++◌, eqb, ltb, length, get_or, set}
-use Rattle.choice.specs.Choice.{if◌then◌else◌}
+use Rattle.std.specs.Prelude.{ℕ, zero, suc, ◌+◌, ◌*◌, ◌≤◌, ◌≡◌, List, ◌++◌, eqb, ltb, length, get_or, set, if◌then◌else◌}
 use Rattle.report_rules.specs.declared.Trial.{Trial}
 use Rattle.report_call.specs.declared.Sums.{Sums}
 use Rattle.report_rules.specs.Reading.{line_at}

@@ -1,3 +1,5 @@
+#![tactic(auto)]
+
 // The acceptance report of document 02, L12: trials read from bytes, summed, and printed into a lent run.
 // `report` is the call; the other functions are its parts. What they promise is defined in crate `report_rules`.
 ghost use Rattle.std.specs.Prelude.{◌≡◌, true, ◌+◌, ◌<◌, ◌≤◌, length};

@@ -1,10 +1,9 @@
 -- The table of padded names: a row of 20 bytes for each number, which is the name of `model` with spaces behind it.
-use Rattle.std.specs.Prelude.{ℕ, zero, suc, ◌+◌, ◌-◌, ◌≤◌, ◌<◌, ◌≡◌, refl, List, [], ◌∷◌, ◌++◌, map, Bool, true, false, ◌&&◌, eqb, leb, length, get_or, take, replicate}
+use Rattle.std.specs.Prelude.{ℕ, zero, suc, ◌+◌, ◌-◌, ◌≤◌, ◌<◌, ◌≡◌, refl, List, [], ◌∷◌, ◌++◌, map, Bool, true, false, ◌&&◌, eqb, leb, length, get_or, take, replicate, if◌then◌else◌}
 use Rattle.std.proofs.Common.{◌∙◌, arith, le_of_suc-le-suc, not-suc-le-zero, length-append, leb-true}
 use Rattle.std.proofs.lemmas.List.{length-replicate}
 use Rattle.std.proofs.Math.ListN.{get_or-map, get_or-eq_default}
 use Rattle.std.proofs.Math.Seq.{take-append_seam}
-use Rattle.choice.specs.Choice.{if◌then◌else◌}
 use Rattle.model.specs.Names.{names, name_of}
 use Rattle.choice.specs.Pick.{both}
 use Rattle.text.specs.Text.{before}

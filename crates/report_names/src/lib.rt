@@ -1,4 +1,6 @@
 // The names of the refusals, for whoever prints them: a constant table of padded byte strings, one row for each number.
+#![tactic(auto)]
+
 ghost use Rattle.std.specs.Prelude.{◌≡◌, length};
 ghost use Rattle.model.specs.Names.{name_of};
 ghost use Rattle.report_names.specs.Table.{padded_of};

@@ -1,12 +1,11 @@
 -- No longest input: the report of the first 16,384 bytes is the report of all of it. A line that is read has at most 16 bytes (in truth 10, but
 -- 16 are enough), so a thousand of them, and a byte of line 1,001, stand within.
-use Rattle.std.specs.Prelude.{ℕ, zero, suc, ◌+◌, ◌*◌, ◌-◌, ◌^◌, ◌≤◌, ◌<◌, ◌≢◌, ◌≡◌, refl, List, [], ◌∷◌, Bool, true, false, ◌&&◌, eqb, ltb, leb, length, get_or, drop, take}
+use Rattle.std.specs.Prelude.{ℕ, zero, suc, ◌+◌, ◌*◌, ◌-◌, ◌^◌, ◌≤◌, ◌<◌, ◌≢◌, ◌≡◌, refl, List, [], ◌∷◌, Bool, true, false, ◌&&◌, eqb, ltb, leb, length, get_or, drop, take, if◌then◌else◌}
 use Rattle.std.proofs.Common.{sym, ap, ◌∙◌, arith, mul-le-mul_left, length-take, length-take-le, take_all, get_or-take, eq-eqb, ne_eqb, lt-ltb, leb-false}
 use Rattle.std.proofs.Math.Nat.{pow-le-pow_right}
 use Rattle.std.proofs.Math.Decide.{ℕ_discrete, dec_lt}
 use Rattle.std.proofs.Math.Seq.{take-nil}
 use Rattle.std.proofs.lemmas.Bool.{lt-leb}
-use Rattle.choice.specs.Choice.{if◌then◌else◌}
 use Rattle.text.specs.declared.Number.{Number}
 use Rattle.text.specs.Text.{is_digit, digits_in, value_from, no_number, ended_number_of, read_number_of}
 use Rattle.text.specs.Laws.{digit_is, number_within}

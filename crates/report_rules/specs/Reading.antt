@@ -1,6 +1,5 @@
 -- Document 02, L12: the trials that stand in the input.
-use Rattle.std.specs.Prelude.{ℕ, zero, suc, ◌+◌, ◌≤◌, List, [], ◌∷◌, Bool, true, false, eqb, ltb, leb, length, get_or, drop}
-use Rattle.choice.specs.Choice.{if◌then◌else◌}
+use Rattle.std.specs.Prelude.{ℕ, zero, suc, ◌+◌, ◌≤◌, List, [], ◌∷◌, Bool, true, false, eqb, ltb, leb, length, get_or, drop, if◌then◌else◌}
 use Rattle.text.specs.declared.Number.{Number}
 use Rattle.text.specs.Text.{read_number_of}
 use Rattle.report_rules.specs.declared.Trial.{Trial}

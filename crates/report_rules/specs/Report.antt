@@ -1,7 +1,6 @@
 -- Document 02, L12: the printed text, and the one equation of the call. A `#` in a form stands for the next number.
-use Rattle.std.specs.Prelude.{ℕ, zero, suc, ◌+◌, List, [], ◌∷◌, ◌++◌, eqb, ltb, length}
+use Rattle.std.specs.Prelude.{ℕ, zero, suc, ◌+◌, List, [], ◌∷◌, ◌++◌, eqb, ltb, length, if◌then◌else◌}
 use Rattle.std.proofs.lemmas.List.Edits.{sets}
-use Rattle.choice.specs.Choice.{if◌then◌else◌}
 use Rattle.model.specs.Names.{name_of}
 use Rattle.print.specs.Print.{form_of}
 use Rattle.report_rules.specs.declared.Trial.{Trial}

@@ -1,6 +1,5 @@
 -- Document 02, L12: "trials, grants, summed attempts, greatest attempts", and each refusal's count, over the single results.
-use Rattle.std.specs.Prelude.{ℕ, ◌+◌, List, [], ◌∷◌, eqb, ltb}
-use Rattle.choice.specs.Choice.{if◌then◌else◌}
+use Rattle.std.specs.Prelude.{ℕ, ◌+◌, List, [], ◌∷◌, eqb, ltb, if◌then◌else◌}
 use Rattle.report_rules.specs.declared.Trial.{Trial}
 
 -- how many trials ended with this number; 0 is granted

@@ -1,5 +1,6 @@
 // Document 02, L12: the types of the acceptance report. What is read, summed and printed is defined in specs/, with
 // computed cases.
+#![tactic(auto)]
 
 // One result: the attempts it took, and the number of its refusal, 0 for granted.
 #[derive(Clone, Copy)]

@@ -1,7 +1,7 @@
 -- What the salvage's functions promise, by the parts of `mend_of` (crate `model`), and the laws of their loops: the start, one turn, the
 -- end.
 use Prim.Native.Nat.{ℕ, zero, suc, ◌+◌, ◌*◌, ◌-◌, ◌≤◌, ◌<◌}
-use Rattle.std.specs.Prelude.{◌≢◌, ◌≡◌, Bool, ◌&&◌, length, get_or, drop, take}
+use Rattle.std.specs.Prelude.{◌≢◌, ◌≡◌, Bool, ◌&&◌, length, get_or, drop, take, if◌then◌else◌}
 use Rattle.std.proofs.Math.Path.{refl, ap}
 use Rattle.std.proofs.Common.{sym, ◌∙◌, length-append, drop_of_length-le, get_or-set_other, drop-set-lt, take_at, drop_at, length-take-le}
 use mathlib.Core.List.{List, [], ◌∷◌, ◌++◌, append_assoc, append-nil}
@@ -13,7 +13,6 @@ use Rattle.std.proofs.Math.ListN.{set}
 use Rattle.std.proofs.lemmas.List.{set-get_or}
 use Rattle.std.proofs.lemmas.List.Edits.{sets, sets-eq}
 use Rattle.std.proofs.Math.Seq.{take_all}
-use Rattle.choice.specs.Choice.{if◌then◌else◌}
 use Rattle.choice.specs.Pick.{if_both}
 use Rattle.choice.specs.Lists.{sets_sets as laid_twice}
 use Rattle.model.specs.Arena.{cells_of, bit_at, owner_at, waiters_at, set_cell, set_waiters, is_free, is_held, state_of}

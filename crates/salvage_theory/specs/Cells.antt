@@ -1,9 +1,8 @@
 -- What a salvage makes of a cell and of a health byte, also the second time; and which cells its list picks, and how many.
-use Rattle.std.specs.Prelude.{ℕ, zero, suc, ◌+◌, ◌≤◌, ◌<◌, ◌≡◌, refl, List, [], ◌∷◌, Bool, true, false, ◌&&◌, ltb, leb, eqb, length, get_or}
+use Rattle.std.specs.Prelude.{ℕ, zero, suc, ◌+◌, ◌≤◌, ◌<◌, ◌≡◌, refl, List, [], ◌∷◌, Bool, true, false, ◌&&◌, ltb, leb, eqb, length, get_or, if◌then◌else◌}
 use Rattle.std.proofs.Common.{sym, ap, ◌∙◌, arith, eqb-true, leb-true, ltb-true, le-leb, eq-eqb, ne_eqb, lt-ltb}
 use Rattle.std.proofs.Math.Decide.{ℕ_discrete}
 use Rattle.std.proofs.lemmas.Bool.{lt-leb}
-use Rattle.choice.specs.Choice.{if◌then◌else◌}
 use Rattle.choice.specs.Pick.{both}
 use Rattle.model.specs.Arena.{bit_at, owner_at, is_free, is_held, state_of, state_at}
 use Rattle.model.specs.Salvage.{kept_of, mended_table, mended_byte, mended_health, held_from, left_held}

@@ -1,9 +1,8 @@
 -- What `changes_from` lists of two runs of one length: exactly the places where they differ, rising; and the old run from the new one.
-use Rattle.std.specs.Prelude.{ℕ, zero, suc, ◌+◌, ◌*◌, ◌<◌, ◌≡◌, refl, List, [], ◌∷◌, ◌++◌, Bool, true, false, ◌≢◌, eqb, length, get_or, set}
+use Rattle.std.specs.Prelude.{ℕ, zero, suc, ◌+◌, ◌*◌, ◌<◌, ◌≡◌, refl, List, [], ◌∷◌, ◌++◌, Bool, true, false, ◌≢◌, eqb, length, get_or, set, if◌then◌else◌}
 use Rattle.std.proofs.Common.{sym, ap, ◌∙◌, append_assoc, arith, length-append, eqb-true, eq-eqb}
 use Rattle.std.proofs.lemmas.List.{set_at}
 use Rattle.std.proofs.lemmas.Bool.{eqb-false}
-use Rattle.choice.specs.Choice.{if◌then◌else◌}
 use Rattle.model.specs.Salvage.{change_of, changes_from}
 use Rattle.laws.specs.Salvage.{later_word, differing}
 use Rattle.salvage_theory.specs.Statements.{place_in, old_in, new_in, undone}

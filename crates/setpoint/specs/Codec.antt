@@ -1,8 +1,7 @@
 -- Document 02, L2: "A setpoint is a pressure in bar as f32, a speed as a whole number, or a valve open or shut."
-use Rattle.std.specs.Prelude.{ℕ, ◌+◌, ◌*◌, ◌/◌, ◌%◌, List, [], ◌∷◌, Bool, true, false, ltb, eqb, get_or, Float}
+use Rattle.std.specs.Prelude.{ℕ, ◌+◌, ◌*◌, ◌/◌, ◌%◌, List, [], ◌∷◌, Bool, true, false, ltb, eqb, get_or, Float, if◌then◌else◌}
 use Rattle.std.specs.Float.{nan, inf, fin, binary32}
 use Rattle.std.specs.Float.Ieee.{to_bits, of_bits}
-use Rattle.choice.specs.Choice.{if◌then◌else◌}
 use Rattle.setpoint.specs.declared.Setpoint.{Setpoint}
 use Rattle.setpoint.specs.declared.Setpoint.TheVariants.{Pressure, Speed, Valve}
 use Rattle.setpoint.specs.declared.Encoded.{Encoded}

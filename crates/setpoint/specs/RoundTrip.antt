@@ -1,11 +1,10 @@
 -- The codec loses nothing: what was written reads back, bit for bit, minus zero and subnormals too; five bytes that read as a setpoint are the
 -- bytes of that setpoint; everything else reads as none. The last section has the four theorems.
-use Rattle.std.specs.Prelude.{◌≡◌, refl, ℕ, ◌+◌, ◌*◌, ◌/◌, ◌%◌, ◌<◌, List, [], ◌∷◌, Bool, true, false, T, eqb}
+use Rattle.std.specs.Prelude.{◌≡◌, refl, ℕ, ◌+◌, ◌*◌, ◌/◌, ◌%◌, ◌<◌, List, [], ◌∷◌, Bool, true, false, T, eqb, if◌then◌else◌}
 use Rattle.std.proofs.Common.{sym, ap, ◌∙◌, subst, arith, eqb-true}
 use Rattle.std.specs.Float.{binary32}
 use Rattle.std.specs.Float.Ieee.{fits, of_bits}
 use Rattle.std.specs.Float.Ieee.Bits.{of_bits-fits}
-use Rattle.choice.specs.Choice.{if◌then◌else◌}
 use Rattle.setpoint.specs.Codec.{has_body, kind_of, word_of, bytes_of, body_of, encode_of, finite_bits, setting_of, join_of, decode_of}
 use Rattle.setpoint.specs.Float32.{finite_bits_lem, value_back, pattern_back, bits_finite}
 use Rattle.setpoint.specs.declared.Setpoint.{Setpoint}

@@ -1,6 +1,8 @@
 // A setpoint and its five bytes (document 02, L2): a kind byte and four bytes, low byte first. specs/Codec.antt has the
 // rules; specs/RoundTrip.antt proves that they lose nothing, both ways.
 // Functions with a `requires` are parts: `word` is for a setpoint that has a body, which its caller has asked.
+#![tactic(auto)]
+
 ghost use Rattle.std.specs.Prelude.{◌≡◌, true};
 ghost use Rattle.setpoint.specs.Codec.{is_finite, has_body, kind_of, word_of, bytes_of, encode_of};
 ghost use Rattle.setpoint.specs.Codec.{join_of, setting_of, decode_of};

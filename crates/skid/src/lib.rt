@@ -1,3 +1,5 @@
+#![tactic(auto)]
+
 // The calls of document 01, and document 02's keys in any order, salvage, crew at work, setpoint book and waveform, for
 // a kernel in C or Rust; include/skid.h declares them. Only numbers and lent runs cross: the head goes in as four
 // numbers, a lease as three, and the last parameter is the lent reply, whose words crate `skid_rules` lays out. Each is

@@ -1,9 +1,8 @@
 -- The words lose nothing: equal words are equal replies.
-use Rattle.std.specs.Prelude.{ℕ, zero, suc, ◌+◌, ◌<◌, ◌*◌, ◌-◌, ◌≡◌, refl, List, [], ◌∷◌, ◌++◌, true, eqb, length, get_or, take, drop}
+use Rattle.std.specs.Prelude.{ℕ, zero, suc, ◌+◌, ◌<◌, ◌*◌, ◌-◌, ◌≡◌, refl, List, [], ◌∷◌, ◌++◌, true, eqb, length, get_or, take, drop, if◌then◌else◌}
 use Rattle.std.proofs.Common.{sym, ap, ◌∙◌, arith, add-one, drop_of_length-le, drop-cons}
 use Rattle.model.specs.Arena.{head_of, lease_of}
 use Rattle.model.specs.Calls.{counts_of}
-use Rattle.choice.specs.Choice.{if◌then◌else◌}
 use Rattle.model.specs.Crew.{Work, rests, adds, taken_of, released_of, crew_rules, crew_at_work_rules, shift_of, crew_of, crew_at_work_of}
 use Rattle.model.specs.Log.{Made}
 use Rattle.model.specs.Order.{reason_is, refusal_is}

@@ -1,1 +1,3 @@
+#![tactic(auto)]
+
 // No code: the layout of replies as words, and that words lose nothing, in specs/.

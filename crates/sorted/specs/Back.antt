@@ -1,11 +1,10 @@
 -- The leases of the distinct cells handed back, one for each key; and multi-lock's parts with a buffer of the call's own.
 use Prim.Native.Nat.{ℕ, zero, suc, ◌+◌, ◌*◌, ◌/◌, ◌<◌, ◌≤◌}
-use Rattle.std.specs.Prelude.{◌≡◌, eqb, length, get_or, set, take, drop}
+use Rattle.std.specs.Prelude.{◌≡◌, eqb, length, get_or, set, take, drop, if◌then◌else◌}
 use Rattle.std.proofs.Math.Path.{refl}
 use Rattle.std.proofs.Common.{ap, ◌∙◌, add-one, take-suc, ne_eqb}
 use mathlib.Core.List.{List, [], ◌∷◌, ◌++◌}
 use native.Mathlib.Omega.{arith}
-use Rattle.choice.specs.Choice.{if◌then◌else◌}
 use Rattle.model.specs.Arena.{hold_of, holds_of, words_of}
 use Rattle.model.specs.Foreign.{Setting, protecting}
 use Rattle.model.specs.Lock.{Locks, after_key, rollback_of, retry_of, attempt_limit, none_yet, no_hold, binding_at, bucket_at, locks_of}

@@ -1,3 +1,5 @@
+#![tactic(auto)]
+
 // Multi-lock with keys in any order, and doubles (document 02, L4): `acquire_sorted_locks`.
 // The keys are resolved to cells and sorted in arrays of the call's own; then multi-lock's own parts lock the sorted
 // keys, and each key is handed the lease of its cell.

@@ -1,7 +1,6 @@
 -- A foreign step is a test and an event: legal or dropped need no cases. Two steps in one order and in the other.
-use Rattle.std.specs.Prelude.{ℕ, ◌+◌, ◌≡◌, refl, List, Bool, true, false, ◌&&◌, not, ◌≢◌, ltb, leb, eqb}
+use Rattle.std.specs.Prelude.{ℕ, ◌+◌, ◌≡◌, refl, List, Bool, true, false, ◌&&◌, not, ◌≢◌, ltb, leb, eqb, if◌then◌else◌}
 use Rattle.std.proofs.Common.{sym, ap, ◌∙◌, subst, inl, inr, arith, ltb-true, ltb-false, leb-true, eqb-true, lt-ltb, le-ltb, eq-eqb}
-use Rattle.choice.specs.Choice.{if◌then◌else◌}
 use Rattle.model.specs.Log.{Made, Event, by_script, spun, step_dropped, took, released, waiters_set, health_set}
 use Rattle.model.specs.Arena.{serial_remains, last_serial, spent_to, hold_of, bit_at, owner_at, is_free, is_live, is_in}
 use Rattle.model.specs.Foreign.{step_of, step_take_of, step_release_of, step_waiters_of, step_health_of}

@@ -1,6 +1,5 @@
 -- With takes exchanged too, owners differ by a renaming of serials: the words of the statements.
-use Rattle.std.specs.Prelude.{ℕ, ◌+◌, ◌≤◌, ◌<◌, ◌≡◌, List, [], ◌∷◌, ◌≢◌, ◌⊎◌, eqb}
-use Rattle.choice.specs.Choice.{if◌then◌else◌}
+use Rattle.std.specs.Prelude.{ℕ, ◌+◌, ◌≤◌, ◌<◌, ◌≡◌, List, [], ◌∷◌, ◌≢◌, ◌⊎◌, eqb, if◌then◌else◌}
 use Rattle.model.specs.Log.{Actor, Event, attempt_begun, boundary_run, yielded, spun, step_dropped, took, released, waiters_set, health_set, held_all_lem, added}
 use Rattle.types.specs.declared.Hold.{Hold}
 use Rattle.history.specs.World.{World}

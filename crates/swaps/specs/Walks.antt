@@ -1,10 +1,9 @@
 -- Calls over two scripts whose boundaries are alike: the same to the end. Each definition is walked through once, stage by stage.
 use Prim.Native.Nat.{ℕ, zero, suc, ◌+◌, ◌%◌}
-use Rattle.std.specs.Prelude.{◌≡◌, Bool, true, false, eqb, length}
+use Rattle.std.specs.Prelude.{◌≡◌, Bool, true, false, eqb, length, if◌then◌else◌}
 use Rattle.std.proofs.Math.Path.{refl}
 use mathlib.Core.List.{List, [], ◌∷◌, ◌++◌}
 use Rattle.std.proofs.Math.ListN.{take}
-use Rattle.choice.specs.Choice.{if◌then◌else◌}
 use Rattle.model.specs.Log.{Made}
 use Rattle.model.specs.Arena.{header_of, is_poisoned, waiters_at, set_cell, hold_of}
 use Rattle.model.specs.Foreign.{flow_of, boundary_of}

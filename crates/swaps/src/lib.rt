@@ -1,1 +1,3 @@
+#![tactic(auto)]
+
 // Which steps of a trace may be swapped: document 02, L7. Theorems only: specs/.

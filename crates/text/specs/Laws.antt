@@ -1,8 +1,7 @@
 -- Laws of what lines are made of: one turn and the end of each recursion, and what is read lies within the line.
-use Rattle.std.specs.Prelude.{ℕ, ◌+◌, ◌*◌, ◌-◌, ◌≤◌, ◌<◌, ◌≡◌, refl, List, [], ◌∷◌, Bool, true, false, ◌&&◌, eqb, ltb, length, get_or, drop}
+use Rattle.std.specs.Prelude.{ℕ, ◌+◌, ◌*◌, ◌-◌, ◌≤◌, ◌<◌, ◌≡◌, refl, List, [], ◌∷◌, Bool, true, false, ◌&&◌, eqb, ltb, length, get_or, drop, if◌then◌else◌}
 use Rattle.std.proofs.Common.{ap, ◌∙◌, arith, add-zero, drop_of_length-le, get_or-drop, lt-ltb, le-ltb, ltb-true, ltb-false}
 pub use Rattle.choice.specs.Lists.{drop_one}
-use Rattle.choice.specs.Choice.{if◌then◌else◌}
 use Rattle.choice.specs.Pick.{if_both}
 use Rattle.text.specs.declared.Number.{Number}
 use Rattle.text.specs.Text.{before, is_digit, digits_in, value_from, no_number, ended_number_of, read_number_of}

@@ -1,6 +1,5 @@
 -- What lines are made of, in the waveform and in the report: bytes up to a stop, decimal numbers.
-use Rattle.std.specs.Prelude.{ℕ, ◌+◌, ◌*◌, ◌-◌, List, [], ◌∷◌, Bool, true, false, ◌&&◌, eqb, ltb, get_or}
-use Rattle.choice.specs.Choice.{if◌then◌else◌}
+use Rattle.std.specs.Prelude.{ℕ, ◌+◌, ◌*◌, ◌-◌, List, [], ◌∷◌, Bool, true, false, ◌&&◌, eqb, ltb, get_or, if◌then◌else◌}
 use Rattle.text.specs.declared.Number.{Number}
 
 -- "each line ended by a line feed": how many bytes stand before the first `stop`

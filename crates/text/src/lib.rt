@@ -1,5 +1,7 @@
 // What lines are made of: bytes up to a stop, and decimal numbers. Every function takes any bytes. None is a call of
 // document 01: the waveform and the report call them.
+#![tactic(auto)]
+
 ghost use Rattle.std.specs.Prelude.{◌≡◌, ◌+◌, ◌-◌, ◌≤◌, ◌<◌, ◌&&◌, eqb, ltb, length, get_or, drop};
 ghost use Rattle.io.specs.Counts.{IsPrefixLen};
 ghost use Rattle.text.specs.Text.{before, is_digit, no_number, ended_number_of, read_number_of};

@@ -1,6 +1,5 @@
 -- Document 01, "The arena": the head, and what its own operations give.
-use Rattle.std.specs.Prelude.{ℕ, ◌+◌, ◌*◌, Bool, not, ◌&&◌, ltb, leb, eqb}
-use Rattle.choice.specs.Choice.{if◌then◌else◌}
+use Rattle.std.specs.Prelude.{ℕ, ◌+◌, ◌*◌, Bool, not, ◌&&◌, ltb, leb, eqb, if◌then◌else◌}
 use Rattle.types.specs.declared.Head.{Head}
 use Rattle.types.specs.declared.Issue.{Issue}
 use Rattle.types.specs.declared.Lease.{Lease}

@@ -1,5 +1,7 @@
 // The types that document 01's answers are made of, and the head's own operations. What a call gives is in crate
 // `model`: document 01 itself, as definitions over these types.
+#![tactic(auto)]
+
 ghost use Rattle.std.specs.Prelude.{◌≡◌};
 ghost use Rattle.types.specs.Head.{serial_remains, shape_fits, health_fits, issue_of, spent_to, is_stale};
 ghost use Rattle.types.specs.Numbers.{reason_number, reason_serial, number_of, carried_of};

@@ -1,12 +1,11 @@
 -- "What upstream leaves open" (document 01): "`Guard` in 001 is a plain value: no exclusion, no release." As in `Open`,
 -- with upstream's guard and its clauses to the letter; a lease stands for a guard only where ours comes in.
 use Prim.Native.Nat.{ℕ, zero, suc, ◌+◌, ◌<◌}
-use Rattle.std.specs.Prelude.{◌≡◌, List, [], ◌∷◌, Bool, true, ◌&&◌, ltb, length, get_or}
+use Rattle.std.specs.Prelude.{◌≡◌, List, [], ◌∷◌, Bool, true, ◌&&◌, ltb, length, get_or, if◌then◌else◌}
 use Rattle.std.proofs.Math.Path.{refl, ap, subst}
 use Rattle.std.proofs.Common.{sym, ◌∙◌, ltb-true}
 use Rattle.std.proofs.Math.Option.{Option, none, some}
 use native.Mathlib.Omega.{arith}
-use Rattle.choice.specs.Choice.{if◌then◌else◌}
 use Rattle.model.specs.Arena.{cell_number, hold_of, leases_of, holds_of, words_of, bit_at, owner_at, waiters_at, set_cell, is_free, is_held, state_of, state_at, head_fits, shape_fits, health_fits, registry_fits, lease_under}
 use Rattle.model.specs.Answers.{kind_of}
 use Rattle.model.specs.Refusals.{first}

@@ -1,6 +1,5 @@
 -- Questions about a stage and a line, which the reader's steps ask.
-use Rattle.std.specs.Prelude.{ℕ, ◌-◌, Bool, true, false, List, length, drop, ◌==◌, nat_eq, nat_lt, slice_index}
-use Rattle.choice.specs.Choice.{if◌then◌else◌}
+use Rattle.std.specs.Prelude.{ℕ, ◌-◌, Bool, true, false, List, length, drop, ◌==◌, nat_eq, nat_lt, slice_index, if◌then◌else◌}
 use Rattle.text.specs.Text.{digits_in, value_from}
 use Rattle.wave_rules.specs.Reader.{time_in, is_time}
 use Rattle.wave_rules.specs.declared.Stage.{Stage}

@@ -1,7 +1,6 @@
 -- Document 02, L11, the two calls: the answer, and the lent buffer afterwards.
-use Rattle.std.specs.Prelude.{ℕ, ◌/◌, List, Bool, ◌||◌, eqb, ltb, length}
+use Rattle.std.specs.Prelude.{ℕ, ◌/◌, List, Bool, ◌||◌, eqb, ltb, length, if◌then◌else◌}
 use Rattle.std.proofs.lemmas.List.Edits.{sets}
-use Rattle.choice.specs.Choice.{if◌then◌else◌}
 use Rattle.model.specs.Checks.{bad_script}
 use Rattle.wave_rules.specs.declared.Dumped.{Dumped}
 use Rattle.wave_rules.specs.declared.Dumped.TheVariants as dumped

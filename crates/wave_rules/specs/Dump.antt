@@ -1,6 +1,5 @@
 -- Document 02, L11, the writing: the bits of the first n cells over a history, as text.
-use Rattle.std.specs.Prelude.{ℕ, zero, suc, ◌+◌, ◌%◌, ◌≤◌, ◌≡◌, List, [], ◌∷◌, ◌++◌, Bool, false, eqb, ltb, length, get_or, set, replicate}
-use Rattle.choice.specs.Choice.{if◌then◌else◌}
+use Rattle.std.specs.Prelude.{ℕ, zero, suc, ◌+◌, ◌%◌, ◌≤◌, ◌≡◌, List, [], ◌∷◌, ◌++◌, Bool, false, eqb, ltb, length, get_or, set, replicate, if◌then◌else◌}
 use Rattle.text.specs.Decimal.{decimal_of}
 use Rattle.wave_rules.specs.Lines.{joined}
 

@@ -1,6 +1,5 @@
 -- Text as lines, each ended by a line feed, and lines as text.
-use Rattle.std.specs.Prelude.{ℕ, List, [], ◌∷◌, ◌++◌, Bool, true, false, eqb}
-use Rattle.choice.specs.Choice.{if◌then◌else◌}
+use Rattle.std.specs.Prelude.{ℕ, List, [], ◌∷◌, ◌++◌, Bool, true, false, eqb, if◌then◌else◌}
 
 -- "each line ended by a line feed"
 unfoldable pub joined : List (List ℕ) → List ℕ

@@ -1,8 +1,7 @@
 -- Document 02, L11, the reading: where the reader stands is a stage with the bits so far, and a line leads to the next
 -- stage. "The reader takes only what the writer could have written": a line is taken only if it is the one that the
 -- writer would put there.
-use Rattle.std.specs.Prelude.{ℕ, zero, suc, ◌+◌, ◌-◌, List, [], ◌∷◌, Bool, false, eqb, ltb, leb, get_or, drop}
-use Rattle.choice.specs.Choice.{if◌then◌else◌}
+use Rattle.std.specs.Prelude.{ℕ, zero, suc, ◌+◌, ◌-◌, List, [], ◌∷◌, Bool, false, eqb, ltb, leb, get_or, drop, if◌then◌else◌}
 use Rattle.text.specs.Text.{read_number_of}
 use Rattle.wave_rules.specs.declared.Stage.{Stage}
 use Rattle.wave_rules.specs.declared.Stage.TheVariants.{Opening, Scope, Variables, Ending, Start, Values, Waiting, Changing, Lost}

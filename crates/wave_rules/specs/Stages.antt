@@ -1,8 +1,7 @@
 -- Laws about the reader's stages, for code and theory alike: what is true of the stages that are reached, and how many
 -- words are read.
-use Rattle.std.specs.Prelude.{ℕ, zero, suc, ◌+◌, ◌*◌, ◌-◌, ◌≤◌, ◌<◌, ◌≡◌, refl, List, [], ◌∷◌, Bool, true, false, ltb, leb, eqb, length, get_or}
+use Rattle.std.specs.Prelude.{ℕ, zero, suc, ◌+◌, ◌*◌, ◌-◌, ◌≤◌, ◌<◌, ◌≡◌, refl, List, [], ◌∷◌, Bool, true, false, ltb, leb, eqb, length, get_or, if◌then◌else◌}
 use Rattle.std.proofs.Common.{arith, ltb-true, leb-true, eqb-true, eq-eqb}
-use Rattle.choice.specs.Choice.{if◌then◌else◌}
 pub use Rattle.choice.specs.Pick.{false_not}
 use Rattle.wave_rules.specs.Lines.{Items, finish, torn, line, same}
 use Rattle.wave_rules.specs.Dump.{turns, changes_of, timescale, scope_line, var_line, upscope, end_line, time_line, bit_line}

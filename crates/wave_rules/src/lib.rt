@@ -1,6 +1,7 @@
 // The waveform of the cells (document 02, L11): a value change dump. Here are the answers of its writer and its reader,
 // and the stages that the reader goes through. What they mean is in specs/: L11 itself, as definitions, and its example
 // as a computed case.
+#![tactic(auto)]
 
 // What writing comes to: how many bytes the dump has, or a refusal.
 #[derive(Clone, Copy)]

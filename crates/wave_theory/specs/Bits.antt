@@ -1,12 +1,11 @@
 -- The bits of the first n cells over a history; and that they are those of document 02's own sentence: "from all bits
 -- 0: a take sets its cell's bit, a release clears it, any other step only counts".
-use Rattle.std.specs.Prelude.{ℕ, zero, suc, ◌≤◌, ◌<◌, ◌≡◌, refl, List, [], ◌∷◌, Bool, true, false, eqb, ltb, length, get_or, set, replicate}
+use Rattle.std.specs.Prelude.{ℕ, zero, suc, ◌≤◌, ◌<◌, ◌≡◌, refl, List, [], ◌∷◌, Bool, true, false, eqb, ltb, length, get_or, set, replicate, if◌then◌else◌}
 use Rattle.std.proofs.Common.{arith, length-set, get_or-set_same, get_or-set_other, eqb-true}
 use Rattle.std.proofs.Math.Decide.{ℕ_discrete, dec_lt}
 use Rattle.std.proofs.Math.ListN.{get_or-eq_default}
 use Rattle.std.proofs.lemmas.List.{get_or-replicate, length-replicate, set-get_or}
 use Rattle.std.proofs.lemmas.Bool.{eqb-false}
-use Rattle.choice.specs.Choice.{if◌then◌else◌}
 use Rattle.wave_rules.specs.Dump.{no_bits, turns, changes_of, flip_of}
 
 -- the bits after the first j steps; behind the last step they stay

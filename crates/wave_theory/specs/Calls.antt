@@ -1,8 +1,7 @@
 -- The two calls: what is written reads back, and what is read is written again.
-use Rattle.std.specs.Prelude.{ℕ, ◌+◌, ◌*◌, ◌/◌, ◌≤◌, ◌≡◌, refl, List, [], ◌∷◌, Bool, true, false, ltb, length, get_or, take, drop}
+use Rattle.std.specs.Prelude.{ℕ, ◌+◌, ◌*◌, ◌/◌, ◌≤◌, ◌≡◌, refl, List, [], ◌∷◌, Bool, true, false, ltb, length, get_or, take, drop, if◌then◌else◌}
 use Rattle.std.proofs.Common.{◌∙◌, arith, take_at, le-ltb, ltb-false}
 use Rattle.std.proofs.lemmas.List.Edits.{sets, sets-eq}
-use Rattle.choice.specs.Choice.{if◌then◌else◌}
 use Rattle.wave_rules.specs.declared.Dumped.{Dumped}
 use Rattle.wave_rules.specs.declared.Dumped.TheVariants as dumped
 use Rattle.wave_rules.specs.declared.Undumped.{Undumped}

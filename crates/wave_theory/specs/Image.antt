@@ -1,7 +1,6 @@
 -- What the reader accepts is, byte for byte, the dump of what it gave.
-use Rattle.std.specs.Prelude.{ℕ, zero, suc, ◌+◌, ◌*◌, ◌-◌, ◌≤◌, ◌<◌, ◌≡◌, refl, List, ◌∷◌, Bool, true, false, eqb, ltb, leb, length, get_or}
+use Rattle.std.specs.Prelude.{ℕ, zero, suc, ◌+◌, ◌*◌, ◌-◌, ◌≤◌, ◌<◌, ◌≡◌, refl, List, ◌∷◌, Bool, true, false, eqb, ltb, leb, length, get_or, if◌then◌else◌}
 use Rattle.std.proofs.Common.{sym, ap, ◌∙◌, arith, lt-ltb, ltb-true, ltb-false}
-use Rattle.choice.specs.Choice.{if◌then◌else◌}
 use Rattle.wave_rules.specs.Lines.{Items, finish, torn, line, split_of, same}
 use Rattle.wave_theory.specs.Texts.{items_of, text_of, text_split, text_items}
 use Rattle.wave_rules.specs.Stages.{bad_not, nested, time_later, idle_length, onward, same_true}

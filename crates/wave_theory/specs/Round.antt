@@ -1,8 +1,7 @@
 -- What was written reads back: n, and a script with the same bits at every step.
-use Rattle.std.specs.Prelude.{ℕ, zero, suc, ◌+◌, ◌*◌, ◌-◌, ◌%◌, ◌/◌, ◌≤◌, ◌<◌, ◌≡◌, refl, ◌≢◌, List, [], ◌∷◌, ◌++◌, Bool, true, false, eqb, ltb, length, get_or}
+use Rattle.std.specs.Prelude.{ℕ, zero, suc, ◌+◌, ◌*◌, ◌-◌, ◌%◌, ◌/◌, ◌≤◌, ◌<◌, ◌≡◌, refl, ◌≢◌, List, [], ◌∷◌, ◌++◌, Bool, true, false, eqb, ltb, length, get_or, if◌then◌else◌}
 use Rattle.std.proofs.Common.{sym, ap, ◌∙◌, append_assoc, append-nil, arith}
 use borrow.Author.Tests.{eqb-true, ne_eqb, lt-ltb, le-ltb, le-leb}
-use Rattle.choice.specs.Choice.{if◌then◌else◌}
 use Rattle.io.specs.Digits.{hex_digit_ascii, last_digits}
 use Rattle.text.specs.declared.Number.{Number}
 use Rattle.text.specs.Text.{digits_in}

@@ -1,7 +1,6 @@
 -- The first wrong line is the least k such that no dump begins with lines 1 to k.
-use Rattle.std.specs.Prelude.{ℕ, zero, suc, ◌+◌, ◌-◌, ◌≤◌, ◌<◌, ◌≡◌, refl, List, [], ◌∷◌, Bool, true, false, eqb}
+use Rattle.std.specs.Prelude.{ℕ, zero, suc, ◌+◌, ◌-◌, ◌≤◌, ◌<◌, ◌≡◌, refl, List, [], ◌∷◌, Bool, true, false, eqb, if◌then◌else◌}
 use Rattle.std.proofs.Common.{sym, ap, ◌∙◌, arith}
-use Rattle.choice.specs.Choice.{if◌then◌else◌}
 use Rattle.wave_rules.specs.Lines.{Items, finish, torn, line, put, split_of}
 use Rattle.wave_theory.specs.Texts.{items_of, text_of, split_joined, text_split}
 use Rattle.wave_rules.specs.Stages.{bad_not, Reach, reach_next, same_refl}

@@ -1,9 +1,8 @@
 -- Laws of lines put into a run, and of their lengths.
-use Rattle.std.specs.Prelude.{ℕ, zero, suc, ◌+◌, ◌*◌, ◌-◌, ◌/◌, ◌%◌, ◌≤◌, ◌<◌, ◌≡◌, refl, List, [], ◌∷◌, ◌++◌, Bool, true, false, eqb, length, get_or, drop}
+use Rattle.std.specs.Prelude.{ℕ, zero, suc, ◌+◌, ◌*◌, ◌-◌, ◌/◌, ◌%◌, ◌≤◌, ◌<◌, ◌≡◌, refl, List, [], ◌∷◌, ◌++◌, Bool, true, false, eqb, length, get_or, drop, if◌then◌else◌}
 use Rattle.std.proofs.Common.{sym, ap, ◌∙◌, append_assoc, arith, length-append, length-drop, eqb-true, lt-ltb}
 use Rattle.std.proofs.lemmas.List.Edits.{sets}
 use Rattle.choice.specs.Lists.{drop_three}
-use Rattle.choice.specs.Choice.{if◌then◌else◌}
 use Rattle.choice.specs.Pick.{if_both}
 use Rattle.print.specs.Print.{put_of}
 use Rattle.print.specs.Laws.{put_none, put_join, put_place}

@@ -1,6 +1,5 @@
 -- What the writer's steps leave: bytes at a place (`put_of` of crate `print`), and the bits after a step.
-use Rattle.std.specs.Prelude.{ℕ, ◌+◌, List, [], ◌∷◌, ◌++◌, Bool, true, false, eqb, get_or}
-use Rattle.choice.specs.Choice.{if◌then◌else◌}
+use Rattle.std.specs.Prelude.{ℕ, ◌+◌, List, [], ◌∷◌, ◌++◌, Bool, true, false, eqb, get_or, if◌then◌else◌}
 use Rattle.print.specs.Print.{put_of}
 use Rattle.text.specs.Decimal.{digit_count}
 use Rattle.wave_rules.specs.Lines.{joined}

@@ -1,3 +1,5 @@
+#![tactic(auto)]
+
 // The writer of the waveform (document 02, L11): first how long the dump is, so that nothing is written where it does
 // not fit, and then its bytes. Each function but `write` is a part: it may have a `requires`, which its callers prove.
 ghost use Rattle.std.specs.Prelude.{◌≡◌, ◌+◌, ◌<◌, ◌≤◌, true, [], ◌∷◌, length};

@@ -1,8 +1,7 @@
 -- Wrong builds: answering functions of the calls' own types, each wrong in one thing. "Slips to be ruled out" and "Idle builds the promises must
 -- reject" of document 01, slips that document 02, L1, L3, L4 and L8, invite, slips of definitions that an earlier set of theorems let pass, and slips of the log
 -- alone. `Falls` and `Crews` prove that each fails `Meets` of crate `pinned`, or what stands beside it. Where nothing else is said a build does as ours does.
-use Rattle.std.specs.Prelude.{ℕ, zero, suc, ◌+◌, ◌-◌, ◌/◌, ◌%◌, List, [], ◌∷◌, ◌++◌, reverse, ◌||◌, ◌&&◌, ltb, leb, eqb, length, get_or, replicate}
-use Rattle.choice.specs.Choice.{if◌then◌else◌}
+use Rattle.std.specs.Prelude.{ℕ, zero, suc, ◌+◌, ◌-◌, ◌/◌, ◌%◌, List, [], ◌∷◌, ◌++◌, reverse, ◌||◌, ◌&&◌, ltb, leb, eqb, length, get_or, replicate, if◌then◌else◌}
 use Rattle.model.specs.Log.{Made, Event, by_caller, by_script, attempt_begun, boundary_run, yielded, spun, step_dropped, took, released, waiters_set, health_set, held_all_lem, added, gives, note, ◌>>=◌, ◌>>◌}
 use Rattle.model.specs.Arena.{head_of, spent_to, lease_of, leases_of, holds_of, words_of, owner_at, set_cell, set_waiters, hold_in, lease_under}
 use Rattle.model.specs.Refusals.{Rule, number_of, carried_of, first, judge}

@@ -6,13 +6,13 @@ use Rattle.std.proofs.Common.{rules}
 use Rattle.lock.proofs.second_stage.Goals as goal
 use Rattle.lock.proofs.second_stage.Goals.{After-boundary-after}
 
-flow-bound : (c : After-boundary-after) → FlowBound c.args.scope.steps c.boundary-after.result
-flow-bound c = boundary_goes _ _ _ _ _ _ _ _ _ c.requires.0.steps_are c.boundary-after.ensures c.requires.1.0
+flow_bound : (c : After-boundary-after) → FlowBound c.args.scope.steps c.boundary-after.result
+flow_bound c = boundary_goes _ _ _ _ _ _ _ _ _ c.requires.0.steps_are c.boundary-after.ensures c.requires.1.0
 
 pub late_stage-requires : goal.late_stage-requires
 late_stage-requires c =
     let room = c.requires.0 in
-    let p = flow-bound (goal.at.late_stage-requires c).After-boundary-after in
+    let p = flow_bound (goal.at.late_stage-requires c).After-boundary-after in
     (record { words_fit = search rules; bytes_fit = search rules; few_taken = room.few_taken; steps_are = room.steps_are }, (record { few = p.few; in_script = p.in_script }, c.requires.1.1))
 
 pub returns-in-Granted : goal.returns-in-Granted

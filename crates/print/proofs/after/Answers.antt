@@ -1,4 +1,3 @@
-
 use Rattle.print.specs.Print.{after_of}
 use borrow.Author.Tests.{eq-eqb, ne_eqb}
 use Rattle.print.proofs.after.Goals as goal

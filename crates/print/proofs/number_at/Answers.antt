@@ -1,4 +1,3 @@
-
 use lib.ListN.{get_or-eq_default}
 use mathlib.Core.Path.{sym}
 use Rattle.print.proofs.number_at.Goals as goal

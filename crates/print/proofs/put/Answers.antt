@@ -1,8 +1,5 @@
 -- `print::put` meets its contract.
-use Prim.Native.Nat.{◌≤◌, ◌-◌, ◌+◌}
-use mathlib.Core.Path.{◌≡◌, sym, ◌∙◌}
-use lib.ListN.{length, drop}
-use Rattle.print.specs.Print.{put_of}
+use mathlib.Core.Path.{sym, ◌∙◌}
 use Rattle.print.specs.Laws.{put_at, put_end}
 use Rattle.std.proofs.Common.{rules}
 use Rattle.print.proofs.put.Goals as goal

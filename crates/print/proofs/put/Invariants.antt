@@ -1,9 +1,8 @@
 -- `print::put` meets its contract.
 use Prim.Native.Nat.{◌≤◌, ◌-◌, ◌+◌}
-use mathlib.Core.Path.{◌≡◌, sym, ◌∙◌}
+use mathlib.Core.Path.{◌≡◌}
 use lib.ListN.{length, drop}
 use Rattle.print.specs.Print.{put_of}
-use Rattle.print.specs.Laws.{put_at, put_end}
 use Rattle.print.proofs.put.Given as goal
 
 abbrev pub invariant-loop-i : goal.invariant-loop-i

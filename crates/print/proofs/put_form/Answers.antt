@@ -1,10 +1,8 @@
-
 use Rattle.print.specs.Laws.{put_place, piece_few, after_next, form_turn, form_end}
-use Rattle.print.specs.Print.{put_of, form_from, form_of}
-use lib.ListN.{length, get_or, drop}
+use Rattle.print.specs.Print.{form_of}
+use lib.ListN.{get_or}
 use native.Mathlib.Omega.{arith}
-use mathlib.Core.Path.{◌≡◌, refl, ◌∙◌}
-use Prim.Native.Nat.{◌≤◌, ◌-◌, ◌+◌, ◌*◌}
+use mathlib.Core.Path.{refl, ◌∙◌}
 use Rattle.std.proofs.Common.{rules}
 use Rattle.print.proofs.put_form.Goals as goal
 

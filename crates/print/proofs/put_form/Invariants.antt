@@ -1,9 +1,6 @@
-
-use Rattle.print.specs.Laws.{put_place, piece_few, after_next, form_turn, form_end}
-use Rattle.print.specs.Print.{put_of, form_from, form_of}
-use lib.ListN.{length, get_or, drop}
-use native.Mathlib.Omega.{arith}
-use mathlib.Core.Path.{◌≡◌, refl, ◌∙◌}
+use Rattle.print.specs.Print.{put_of, form_from}
+use lib.ListN.{length, drop}
+use mathlib.Core.Path.{◌≡◌}
 use Prim.Native.Nat.{◌≤◌, ◌-◌, ◌+◌, ◌*◌}
 use Rattle.print.proofs.put_form.Given as goal
 

@@ -1,4 +1,3 @@
-
 use native.Mathlib.Omega.{arith}
 use Rattle.text.specs.Decimal.{digit_count_most}
 use Rattle.print.specs.Print.{piece_of}

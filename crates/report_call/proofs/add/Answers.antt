@@ -1,4 +1,3 @@
-
 use Rattle.report_call.specs.Scan.{added_of}
 use native.Mathlib.Omega.{arith}
 use Rattle.report_call.proofs.add.Goals as goal

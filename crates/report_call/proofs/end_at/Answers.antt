@@ -1,4 +1,3 @@
-
 use Rattle.report_call.specs.Laws.{none_past}
 use Rattle.report_rules.specs.Reading.{end_at}
 use borrow.Author.Tests.{eq-eqb, ne_eqb}

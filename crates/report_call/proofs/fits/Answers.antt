@@ -1,4 +1,3 @@
-
 use Rattle.report_rules.specs.Reading.{fits_of}
 use Rattle.report_call.proofs.fits.Goals as goal
 

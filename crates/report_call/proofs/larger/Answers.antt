@@ -1,4 +1,3 @@
-
 use borrow.Author.Tests.{lt-ltb, le-ltb}
 use Rattle.report_call.proofs.larger.Goals as goal
 

@@ -1,4 +1,3 @@
-
 use Rattle.report_call.specs.Laws.{number_short}
 use Rattle.report_rules.specs.Reading.{line_at}
 use Rattle.text.specs.declared.Number.{Number}

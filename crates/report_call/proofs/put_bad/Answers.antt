@@ -1,4 +1,3 @@
-
 use Rattle.report_rules.specs.Report.{bad_text}
 use Rattle.report_call.proofs.put_bad.Goals as goal
 

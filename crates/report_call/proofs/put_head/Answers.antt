@@ -1,4 +1,3 @@
-
 use Rattle.report_rules.specs.Report.{head_of}
 use Rattle.report_call.proofs.put_head.Goals as goal
 

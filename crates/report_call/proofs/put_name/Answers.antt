@@ -1,4 +1,3 @@
-
 use Rattle.report_names.specs.Table.{padded_of, trimmed}
 use Rattle.text.specs.Text.{before}
 use Rattle.model.specs.Names.{name_of}

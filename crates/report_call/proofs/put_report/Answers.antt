@@ -1,4 +1,3 @@
-
 use Rattle.report_call.specs.Laws.{head_few}
 use Rattle.report_rules.specs.Report.{head_of, rows_of}
 use Rattle.report_call.specs.Scan.{seen_in, printed_of}

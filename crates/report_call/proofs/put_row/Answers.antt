@@ -1,4 +1,3 @@
-
 use Rattle.report_rules.specs.Report.{number_form, count_form, row_of}
 use Rattle.report_names.specs.Table.{name_short}
 use Rattle.print.specs.Laws.{put_none, put_join, put_place, form_size}

@@ -1,4 +1,3 @@
-
 use Rattle.report_call.specs.Laws.{row_few, rows_turn, rows_end}
 use Rattle.report_rules.specs.Report.{rows_of}
 use Rattle.report_call.specs.Scan.{seen_in}

@@ -1,4 +1,3 @@
-
 use Prim.Native.Nat.{◌+◌}
 use Rattle.report_call.specs.Laws.{none_past, number_ends}
 use Rattle.report_rules.specs.Reading.{refusal_at}

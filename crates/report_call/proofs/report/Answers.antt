@@ -1,4 +1,3 @@
-
 use Rattle.report_call.specs.Laws.{zeros_bounded, report_is}
 use Rattle.report_rules.specs.Report.{report_of}
 use borrow.Author.Tests.{lt-ltb}

@@ -1,4 +1,3 @@
-
 use Rattle.report_call.specs.Laws.{line_read_lem, added_bounded, scan_turn, scan_bad, scan_over, scan_end}
 use Rattle.report_call.specs.Scan.{scan_from, scan_of, Bounded}
 use lib.ListN.{length}

@@ -1,4 +1,3 @@
-
 use Rattle.report_names.specs.Table.{table_of, row_named, padded_size, no_name, no_name_first}
 use Rattle.model.specs.Names.{names}
 use lib.ListN.{length}

@@ -1,8 +1,8 @@
 -- `text::read_number` meets its contract.
-use Prim.Native.Nat.{◌≤◌, ◌-◌, ◌+◌, ◌*◌, ◌<◌}
+use Prim.Native.Nat.{◌-◌, ◌+◌, ◌*◌, ◌<◌}
 use mathlib.Core.Path.{◌≡◌, sym, ◌∙◌}
 use native.Mathlib.Omega.{arith}
-use lib.ListN.{length, drop, get_or}
+use lib.ListN.{drop, get_or}
 use Rattle.text.specs.Text.{value_from, digits_in}
 use Rattle.text.specs.Laws.{number_large, number_ends, digit_is, value_at, value_end, digits_at, digits_end}
 use Rattle.std.proofs.Common.{rules}

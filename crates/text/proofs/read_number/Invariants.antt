@@ -1,10 +1,8 @@
 -- `text::read_number` meets its contract.
-use Prim.Native.Nat.{◌≤◌, ◌-◌, ◌+◌, ◌*◌, ◌<◌}
-use mathlib.Core.Path.{◌≡◌, sym, ◌∙◌}
-use native.Mathlib.Omega.{arith}
-use lib.ListN.{length, drop, get_or}
+use Prim.Native.Nat.{◌≤◌, ◌-◌, ◌+◌, ◌<◌}
+use mathlib.Core.Path.{◌≡◌}
+use lib.ListN.{length, drop}
 use Rattle.text.specs.Text.{value_from, digits_in}
-use Rattle.text.specs.Laws.{number_large, number_ends, digit_is, value_at, value_end, digits_at, digits_end}
 use Rattle.text.proofs.read_number.Given as goal
 
 abbrev pub invariant-loop-i : goal.invariant-loop-i
