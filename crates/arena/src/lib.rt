@@ -1,9 +1,9 @@
-#![tactic(auto)]
-
 // The arena of document 01: a cell's three words, what they say, and preparing.
 // Functions with a `requires` are parts: calls have tested the shape, and a part tests nothing twice.
 // Parts are no calls of document 01, public ones neither: only the layers here call them (tests/layers.sh), and each
 // caller proves their `requires`.
+#![tactic(auto)]
+
 ghost use Rattle.std.specs.Prelude.{◌≡◌, [], ◌∷◌, ◌+◌, ◌*◌, ◌<◌, ◌≤◌, length, replicate};
 ghost use Rattle.model.specs.Arena.{hold_of, bit_at, owner_at, waiters_at, set_cell};
 ghost use Rattle.model.specs.Arena.{set_waiters, is_free, state_of, state_at, is_live};

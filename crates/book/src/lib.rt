@@ -1,8 +1,8 @@
-#![tactic(auto)]
-
 // The calls of the setpoint book (document 02, L2 and L10): preparing, writing, reading. `book_rules` has the rules.
 // Functions with a `requires` are parts: calls have tested the head, the book's length and the slot, and a part tests
 // nothing twice. No other crate calls a part of this file.
+#![tactic(auto)]
+
 ghost use Rattle.std.specs.Prelude.{◌≡◌, ◌+◌, ◌*◌, ◌≤◌, ◌<◌, true, length};
 ghost use Rattle.model.specs.Arena.{head_fits, shape_fits, hold_in};
 ghost use Rattle.setpoint.specs.Codec.{has_body};

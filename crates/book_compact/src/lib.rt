@@ -1,8 +1,8 @@
-#![tactic(auto)]
-
 // Compaction of a setpoint book (document 02, L10): kept bodies slide to the front in one pass, and the lines follow.
 // All functions are parts: the book fits its rules, its bodies leave the room that a write needs, and the scan of crate
 // `book_sound` has marked them.
+#![tactic(auto)]
+
 ghost use Rattle.std.specs.Prelude.{◌≡◌, ◌+◌, ◌*◌, ◌≤◌, ◌<◌, length};
 ghost use Rattle.book_rules.specs.Layout.{lines_of, front_of};
 ghost use Rattle.book_rules.specs.Writing.{kept_of};

@@ -1,7 +1,7 @@
-#![tactic(auto)]
-
 // The parts of a write on a setpoint book (document 02, L2 and L10): what stays after the drop, the drop, the room
 // behind the last body, the append. All functions are parts: a call has tested the book, and that there is room.
+#![tactic(auto)]
+
 ghost use Rattle.std.specs.Prelude.{◌≡◌, ◌+◌, ◌*◌, ◌≤◌, ◌<◌, true, length};
 ghost use Rattle.std.proofs.lemmas.List.Edits.{sets};
 ghost use Rattle.setpoint.specs.Codec.{has_body};

@@ -1,7 +1,7 @@
-#![tactic(auto)]
-
 // The setpoint book (document 02, L2 as amended by L10): the answers of its calls. What they mean is in specs/: L2 and
 // L10 themselves, as definitions, with computed cases, and laws about them for the calls and the theory alike.
+#![tactic(auto)]
+
 use setpoint::Setpoint;
 
 // The refusals of the book's calls. BadShape is document 01's number 1, NotHeld its 12 and StaleBoot document

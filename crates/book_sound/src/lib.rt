@@ -1,7 +1,7 @@
-#![tactic(auto)]
-
 // Whether a setpoint book is damaged (document 02, L10), in one pass over its lines, and the numbers of a line.
 // Functions with a `requires` are parts: calls have tested the head, the book's length and the slot.
+#![tactic(auto)]
+
 ghost use Rattle.std.specs.Prelude.{◌≡◌, ◌+◌, ◌-◌, ◌*◌, ◌<◌, ◌≤◌, length};
 ghost use Rattle.book_rules.specs.Layout.{lines_of, front_of, place_at, length_at, version_at, setting_at, is_setting};
 ghost use Rattle.book_rules.specs.Layout.{is_kept, is_falling, is_fitting, is_sound};

@@ -29,7 +29,7 @@ use Rattle.history.specs.Logs.{boot_now}
 use Rattle.history.specs.Writers.{looked}
 use Rattle.history.specs.Courses.{Stretch, run_stretch, ledger, begun, events_append, not_prepared, not_salvaged}
 use Rattle.book_theory.specs.Items.{BookItem, arena_item, prepare_book, write_setpoint, read_setpoint, read_version, Shift, shift_of, world_of_lem, next_shift, run_shift}
-use Rattle.book_theory.specs.Statements.{WrittenByHolder, UnownedWritesNothing, StaleWritesNothing, OneWriter, Goes_on, OneStretch, ReleasedBetween, WritersParted}
+use Rattle.book_theory.specs.Statements.{WrittenByHolder, UnownedWritesNothing, StaleWritesNothing, OneWriter, GoesOn, OneStretch, ReleasedBetween, WritersParted}
 
 -- ---- the holder
 
@@ -120,7 +120,7 @@ unsalvaged_more : (a : SalvageAnswer) (w v : World) (k : Course) → ((e m : ℕ
 unsalvaged_more a w v k n =
     subst (Longer k) (sym (not_salvaged a w v k n)) (record { more = []; origin_is = refl; history_is = sym (append-nil (history_of k)) })
 
-item_more : (s : Shift) (i : BookItem) → Goes_on s i → Longer s.course (next_shift s i).course
+item_more : (s : Shift) (i : BookItem) → GoesOn s i → Longer s.course (next_shift s i).course
 unfolding next_shift next_item
 item_more s (arena_item (call c)) g = one_more s.course _ _
 item_more s (arena_item (foreign_step kind place number)) g = one_more s.course _ _

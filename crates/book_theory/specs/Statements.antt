@@ -244,16 +244,16 @@ OneWriter f =
     → (f w.head w.table b slot l p).0 ≡ Written u m → (f w.head w.table c slot k q).0 ≡ Written v o → l ≡ k
 
 -- the item begins no new stretch: it is no start of the arena's history, a done preparation or a done salvage
-abbrev pub Goes_on : Shift → BookItem → Type 0
-Goes_on s (arena_item i) = Begins (world_of_lem s) i → ⊥
-Goes_on s prepare_book = Unit {0}
-Goes_on s (write_setpoint slot l p) = Unit {0}
-Goes_on s (read_setpoint slot) = Unit {0}
-Goes_on s (read_version slot w) = Unit {0}
+abbrev pub GoesOn : Shift → BookItem → Type 0
+GoesOn s (arena_item i) = Begins (world_of_lem s) i → ⊥
+GoesOn s prepare_book = Unit {0}
+GoesOn s (write_setpoint slot l p) = Unit {0}
+GoesOn s (read_setpoint slot) = Unit {0}
+GoesOn s (read_version slot w) = Unit {0}
 
 abbrev pub OneStretch : Shift → List BookItem → Type 0
 OneStretch s [] = Unit {0}
-OneStretch s (i ∷ is) = Goes_on s i × OneStretch (next_shift s i) is
+OneStretch s (i ∷ is) = GoesOn s i × OneStretch (next_shift s i) is
 
 -- the history of the second is that of the first and some events more, and a release of the lease, naming its cell and serial, is among these
 abbrev pub ReleasedBetween : Course → Course → Hold → Type 0

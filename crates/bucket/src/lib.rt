@@ -1,9 +1,9 @@
-#![tactic(auto)]
-
 // Bucket resolution, one attempt by key, and the retry of 4,096 attempts.
 // Functions with a `requires` are parts: calls have tested the shape, and a part tests nothing twice.
 // Parts are no calls of document 01, public ones neither: only the layers here call them (tests/layers.sh), and each
 // caller proves their `requires`.
+#![tactic(auto)]
+
 mod attempts;
 pub mod checks;
 mod quiet;

@@ -1,9 +1,9 @@
-#![tactic(auto)]
-
 // The crew: up to sixteen members take turns, each taking the cells of its list in order and then releasing them, last
 // first. The parts that are `pub` serve crate `crew_at_work` too, where members add between.
 // Functions with a `requires` are parts: the call has tested shape, limits, lists and turns, and a part tests nothing
 // twice.
+#![tactic(auto)]
+
 ghost use Rattle.std.specs.Prelude.{◌≡◌, ◌+◌, ◌*◌, ◌-◌, ◌/◌, ◌<◌, ◌≤◌, min, length, get_or};
 ghost use Rattle.model.specs.Refusals.{first};
 ghost use Rattle.model.specs.Crew.{adds_of, crew_rules, crew_refused, crew_of};

@@ -1,9 +1,9 @@
-#![tactic(auto)]
-
 // The crew at work (document 02, L13): between holding all its cells and releasing them, a member adds to their
 // counters, a moving turn a cell. Plans, places, takes, releases and replies are those of `crew_plan` and `crew`.
 // Functions with a `requires` are parts: the call has tested shape, counters, limits, lists and turns, and a part tests
 // nothing twice.
+#![tactic(auto)]
+
 ghost use Rattle.std.specs.Prelude.{◌≡◌, ◌+◌, ◌-◌, ◌*◌, ◌/◌, ◌<◌, ◌≤◌, length, slice_index};
 ghost use Rattle.model.specs.Arena.{cells_of};
 ghost use Rattle.model.specs.Refusals.{first};

@@ -1,8 +1,8 @@
-#![tactic(auto)]
-
 // The plan of a crew's run, for document 01's and document 02's: what its limits, lists and turns must keep, and where
 // each member's list begins.
 // Functions with a `requires` are parts: the call has tested the limits, and a part tests nothing twice.
+#![tactic(auto)]
+
 ghost use Rattle.std.specs.Prelude.{◌≡◌, ◌&&◌, [], ◌∷◌, ◌++◌, leb, ◌+◌, ◌≤◌, length, take, drop};
 ghost use Rattle.model.specs.Refusals.{first};
 ghost use Rattle.model.specs.Crew.{total, all_within, bad_limits, rises_from, bad_lists, bad_turns};

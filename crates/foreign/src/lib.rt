@@ -1,9 +1,9 @@
-#![tactic(auto)]
-
 // Foreign steps: a script's steps, a boundary, and the two calls that are one boundary.
 // Functions with a `requires` are parts: calls have tested the shape, and a part tests nothing twice.
 // Parts are no calls of document 01, public ones neither: only the layers here call them (tests/layers.sh), and each
 // caller proves their `requires`.
+#![tactic(auto)]
+
 ghost use Rattle.std.specs.Prelude.{◌≡◌, true, [], ◌∷◌, ◌++◌, ◌+◌, ◌*◌, ◌-◌, ◌/◌, ◌<◌, ◌≤◌, length, replicate};
 ghost use Rattle.model.specs.Arena.{shape_fits, is_in, cells_of, head_of, holds_of};
 ghost use Rattle.model.specs.Refusals.{first};

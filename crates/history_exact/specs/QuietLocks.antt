@@ -90,8 +90,8 @@ module _ (e : Setting) (place : ℕ) (quiet : steps_in e.script ≤ place) (d y 
   abbrev Apart : ℕ → Type 0
   Apart n = (p q : ℕ) → p < n → q < n → cell p ≡ cell q → p ≡ q
 
-  abbrev Found_at : ℕ → Type 0
-  Found_at p = find_of e.headers buckets g registry (binding_at keys p) (bucket_at keys p) ≡ found.At (cell p)
+  abbrev FoundAt : ℕ → Type 0
+  FoundAt p = find_of e.headers buckets g registry (binding_at keys p) (bucket_at keys p) ≡ found.At (cell p)
 
   pub record ReadyAt (t : List ℕ) (p : ℕ) : Type 0 where
     pub unwaited : waiters_at t (cell p) ≡ 0
@@ -107,7 +107,7 @@ module _ (e : Setting) (place : ℕ) (quiet : steps_in e.script ≤ place) (d y 
         no_owner = owner_set_other t (cell p) 1 s (cell q) n ∙ r.no_owner;
       }
 
-  module _ (n : ℕ) (apart : Apart n) (there : (p : ℕ) → p < n → Found_at p) where
+  module _ (n : ℕ) (apart : Apart n) (there : (p : ℕ) → p < n → FoundAt p) where
     one_key : (left p : ℕ) (taken : List Hold) (s a x : ℕ) (t : List ℕ) → p < n → ReadyAt t p → s < last_serial
         → (going (suc left) p taken s a x t).seen ≡ (going left (p + 1) (taken ++ (hold_of (cell p) s ∷ [])) (s + 1) (a + 1) (x + 3) (set_cell t (cell p) 1 s)).seen
     unfolding locks_of

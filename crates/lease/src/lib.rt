@@ -1,9 +1,9 @@
-#![tactic(auto)]
-
 // The calls of document 01 that take no script: by cell, and by lease.
 // Functions with a `requires` are parts: calls have tested the shape, and a part tests nothing twice.
 // Parts are no calls of document 01, public ones neither: only the layers here call them (tests/layers.sh), and each
 // caller proves their `requires`.
+#![tactic(auto)]
+
 ghost use Rattle.std.specs.Prelude.{◌≡◌, true, [], ◌∷◌, ◌+◌, ◌*◌, ◌/◌, ◌<◌, ◌≤◌, length, drop};
 ghost use Rattle.model.specs.Arena.{cells_of, hold_of, holds_of, leases_of, set_cell, shape_fits, is_live, same_hold, is_in};
 ghost use Rattle.model.specs.Refusals.{first};

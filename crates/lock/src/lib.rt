@@ -1,10 +1,10 @@
-#![tactic(auto)]
-
 // try_lock: three boundaries, the waiters read before and after, the health after, and a late release whose serial
 // stays spent.
 // Functions with a `requires` are parts: calls have tested the shape, and a part tests nothing twice.
 // Parts are no calls of document 01, public ones neither: only the layers here call them (tests/layers.sh), and each
 // caller proves their `requires`.
+#![tactic(auto)]
+
 ghost use Rattle.std.specs.Prelude.{◌≡◌, ◌+◌, ◌*◌, ◌<◌, length};
 ghost use Rattle.model.specs.Arena.{holds_of};
 ghost use Rattle.model.specs.Refusals.{first};

@@ -1,11 +1,11 @@
-#![tactic(auto)]
-
 // Multi-lock: `acquire_index_locks`, all keys or none.
 // The leases taken so far stand in an array of sixty-four pairs, passed by value with a count; a refusal rolls it back
 // from the end.
 // Functions with a `requires` are parts: calls have tested the shape, and a part tests nothing twice.
 // Parts are no calls of document 01, public ones neither: only the layers here call them (tests/layers.sh), and each
 // caller proves their `requires`.
+#![tactic(auto)]
+
 pub mod checks;
 mod free;
 pub mod keys;

@@ -1,8 +1,8 @@
-#![tactic(auto)]
-
 // A thin face over the core: the cells as a lent slice of records. A single take and a single release give the answers
 // of `lease` on the table of words that the records spell. All rules are on one record by value; the two calls at the
 // end only copy the record out and write it back.
+#![tactic(auto)]
+
 ghost use Rattle.std.specs.Prelude.{◌≡◌, ◌*◌};
 ghost use Rattle.model.specs.Arena.{shape_fits, state_of, held_by};
 ghost use Rattle.model.specs.Calls.{try_acquire_of, drop_lease_of};

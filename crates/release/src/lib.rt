@@ -1,10 +1,10 @@
-#![tactic(auto)]
-
 // Giving back: `release_all`, last first with a boundary after each release, and its parts, on which multi-lock's
 // rollback stands too.
 // Functions with a `requires` are parts: calls have tested the shape, and a part tests nothing twice.
 // Parts are no calls of document 01, public ones neither: only the layers here call them (tests/layers.sh), and each
 // caller proves their `requires`.
+#![tactic(auto)]
+
 ghost use Rattle.std.specs.Prelude.{◌≡◌, true, [], ◌∷◌, ◌*◌, ◌/◌, ◌<◌, ◌≤◌, length, take};
 ghost use Rattle.model.specs.Arena.{holds_of, is_in, leases_of, shape_fits};
 ghost use Rattle.model.specs.Refusals.{first};

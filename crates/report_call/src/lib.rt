@@ -1,7 +1,7 @@
-#![tactic(auto)]
-
 // The acceptance report of document 02, L12: trials read from bytes, summed, and printed into a lent run.
 // `report` is the call; the other functions are its parts. What they promise is defined in crate `report_rules`.
+#![tactic(auto)]
+
 ghost use Rattle.std.specs.Prelude.{◌≡◌, true, ◌+◌, ◌<◌, ◌≤◌, length};
 ghost use Rattle.model.specs.Names.{name_of};
 ghost use Rattle.print.specs.Print.{put_of};

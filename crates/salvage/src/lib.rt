@@ -1,8 +1,8 @@
-#![tactic(auto)]
-
 // Salvage after a warm restart (document 02, L6). Each function but `salvage` is a part: it may have a `requires`,
 // which its callers prove. A first pass counts what would be written, so that ReportFull is known before the first
 // change; a second reads each cell once, lists it and mends it, and only lists it where there is nothing to mend.
+#![tactic(auto)]
+
 ghost use Rattle.std.specs.Prelude.{◌≡◌, ◌+◌, ◌*◌, ◌<◌, ◌≤◌, length, get_or};
 ghost use Rattle.std.proofs.lemmas.List.Edits.{sets};
 ghost use Rattle.model.specs.Arena.{is_held, cells_of};

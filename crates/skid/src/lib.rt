@@ -1,9 +1,9 @@
-#![tactic(auto)]
-
 // The calls of document 01, and document 02's keys in any order, salvage, crew at work, setpoint book and waveform, for
 // a kernel in C or Rust; include/skid.h declares them. Only numbers and lent runs cross: the head goes in as four
 // numbers, a lease as three, and the last parameter is the lent reply, whose words crate `skid_rules` lays out. Each is
 // thin: it makes the head, makes the call, and writes the reply's words.
+#![tactic(auto)]
+
 ghost use Rattle.std.specs.Prelude.{◌≡◌};
 ghost use Rattle.std.specs.Float.{binary32};
 ghost use Rattle.std.specs.Float.Ieee.{of_bits};

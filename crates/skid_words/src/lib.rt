@@ -1,8 +1,8 @@
-#![tactic(auto)]
-
 // A reply as words, for callers in C or Rust: fifteen of them, the crew's forty-nine, the salvage's seven, the setpoint
 // book's four, or the waveform's three.
 // Crate `skid_rules` lays them out (its specs/Words.antt) and proves that they lose nothing (its specs/Tells.antt).
+#![tactic(auto)]
+
 ghost use Rattle.std.specs.Prelude.{◌≡◌, ◌+◌, ◌≤◌, true};
 ghost use Rattle.std.proofs.lemmas.List.Edits.{sets};
 ghost use Rattle.types.specs.declared.Answer.TheVariants.{Granted};

@@ -1,9 +1,9 @@
-#![tactic(auto)]
-
 // Multi-lock with keys in any order, and doubles (document 02, L4): `acquire_sorted_locks`.
 // The keys are resolved to cells and sorted in arrays of the call's own; then multi-lock's own parts lock the sorted
 // keys, and each key is handed the lease of its cell.
 // Functions with a `requires` are parts: calls have tested the shape, and a part tests nothing twice.
+#![tactic(auto)]
+
 mod back;
 mod check;
 mod marks;

@@ -1,7 +1,7 @@
-#![tactic(auto)]
-
 // The stages of the waveform's reader (document 02, L11): what one line leads to. The only lines that lead on are those
 // that the writer would put there. The functions are parts: each may have a `requires`, which its callers prove.
+#![tactic(auto)]
+
 ghost use Rattle.std.specs.Prelude.{◌≡◌, ◌+◌, ◌<◌, ◌≤◌, true, false, length, drop, nat_lt, slice_index, if◌then◌else◌};
 ghost use Rattle.text.specs.Text.{is_digit};
 ghost use Rattle.wave_rules.specs.Lines.{same as Lines·same};

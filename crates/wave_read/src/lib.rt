@@ -1,9 +1,9 @@
-#![tactic(auto)]
-
 // The reader of the waveform (document 02, L11). The lines before the changes lead from stage to stage (crate
 // `wave_line`); the changes are pairs of lines, a time and a change, with loops of their own. A first pass finds the
 // wrong line, or how many words there are; a second writes them, so that nothing is written where they do not fit. Each
 // function but `read` is a part: it may have a `requires`, which its callers prove.
+#![tactic(auto)]
+
 ghost use Rattle.std.specs.Prelude.{◌≡◌, ◌+◌, ◌*◌, ◌≤◌, [], ◌∷◌, length, drop, replicate};
 ghost use Rattle.std.proofs.lemmas.List.Edits.{sets};
 ghost use Rattle.wave_rules.specs.Lines.{split_of};

@@ -1,7 +1,7 @@
-#![tactic(auto)]
-
 // The writer of the waveform (document 02, L11): first how long the dump is, so that nothing is written where it does
 // not fit, and then its bytes. Each function but `write` is a part: it may have a `requires`, which its callers prove.
+#![tactic(auto)]
+
 ghost use Rattle.std.specs.Prelude.{◌≡◌, ◌+◌, ◌<◌, ◌≤◌, true, [], ◌∷◌, length};
 ghost use Rattle.print.specs.Print.{put_of};
 ghost use Rattle.text.specs.Decimal.{digit_count};
