@@ -1,14 +1,14 @@
 #!/usr/bin/env bash
 # bash install.sh PREFIX: the library for who links it, into PREFIX: include/skid.h, include/skid_arena.h, lib/libskid.a,
 # lib/pkgconfig/skid.pc, share/skid/rust (the crate, for a path dependency) and share/skid/cmake/skidConfig.cmake. It prints what it put
-# there, and the archive's SHA-256. The archive is that of target/staticlib; if there is none, or a source is newer, it is made first.
+# there, and the archive's SHA-256. The archive is that of crates/skid/out; if there is none, or a source is newer, it is made first.
 # bash install.sh --uninstall PREFIX: takes the same away again, and the folders below PREFIX that were made for it and are empty.
 # bash install.sh --hash: the archive's SHA-256 alone. It differs between kinds of hosts, so the top entry of CHANGELOG.md has a line for
 # each. `--hash write` writes the one of this host, `--hash check` looks whether the entry has the hash.
 # DESTDIR, if it is set, stands before PREFIX where files are put, and not inside them.
 set -euo pipefail
 cd "$(dirname "$0")"
-archive=target/staticlib/libskid.a
+archive=crates/skid/out/libskid.a
 case $(uname -m) in
     x86_64) host='an x86-64 host' ;;
     aarch64) host='an Arm host' ;;
@@ -35,7 +35,7 @@ prefix() {
 }
 
 the_hash() {
-    [ -e "$archive" ] || fail "no $archive: rt staticlib skid makes it"
+    [ -e "$archive" ] || fail "no $archive: rt lib --cpu x86-64 in crates/skid makes it"
     sha256sum "$archive" | cut -d' ' -f1
 }
 
@@ -65,7 +65,7 @@ hash_of() {
         '') echo "$now" ;;
         check)
             top_entry | grep -qF "\`$now\`" || fail "on $host the archive is $now, which CHANGELOG.md does not name: bash install.sh --hash write"
-            echo "the archive of target/staticlib is one that CHANGELOG.md names"
+            echo "the archive of crates/skid/out is one that CHANGELOG.md names"
             ;;
         write)
             made=$(mktemp)
@@ -151,7 +151,7 @@ put() {
         echo "$root/$path"
     done >"$list"
     # the crate's build looks for the archive here, unless SKID_LIB_DIR names another folder
-    sed -i 's,\.\./\.\./target/staticlib,../../../lib,' "$root/share/skid/rust/build.rs"
+    sed -i 's,\.\./\.\./crates/skid/out,../../../lib,' "$root/share/skid/rust/build.rs"
     while read -r path; do echo "${path#"$root"/}"; done <"$list" >"$root/share/skid/files"
     grep -v '/$' "$list"
     rm -f "$list"

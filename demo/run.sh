@@ -19,7 +19,7 @@ prints the story that it tells. SEED is a number, 1 if there is none; the same s
     --again       one more boot of the kernel with the library, on the paper that the last run left
 
 target/demo has the whole story, story.txt, and the waveforms of the cells, boot-1.vcd and boot-2.vcd; with --believing they
-are in target/demo/believing. The library is that of target/staticlib; the first time, and when a source has changed, it is proved
+are in target/demo/believing. The library is that of crates/skid/out; the first time, and when a source has changed, it is proved
 and built, which takes some minutes. The environment variable SKID_LIB_DIR names another folder that has libskid.a.
 
 status: 0 all as it should be; 1 a count is wrong; 2 two writers on one valve; 3 no such end, or a word that is not
@@ -55,7 +55,7 @@ cd "$(dirname "$0")/.."
 out=target/demo
 mkdir -p "$out"
 [ -n "$library" ] || build_library >&2
-library=${library:-target/staticlib/libskid.a}
+library=${library:-crates/skid/out/libskid.a}
 need_cross >&2
 cc=gcc
 [ "$(uname -m)" = x86_64 ] || cc=x86_64-linux-gnu-gcc

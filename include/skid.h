@@ -3,8 +3,8 @@
  * in any order (L4), salvage (L6), the boot number of a lease (L8), the waveform of the cells (L11) and the crew at
  * work (L13), for C. skid_arena.h is over it, and keeps head, runs and registry together; most programs want that.
  *
- * Link with libskid.a (`rt staticlib skid` writes target/staticlib/libskid.a). The archive is code for x86-64, by the
- * calling convention of Linux there (System V). It asks the host for memcpy and memset, and for nothing else. It has
+ * Link with libskid.a (`rt lib --cpu x86-64` in crates/skid writes crates/skid/out/libskid.a). The archive is code for
+ * x86-64, by the calling convention of Linux there (System V). It asks the host for memcpy and memset, and for nothing else. It has
  * no data of its own that changes, no heap and no thread.
  *
  * What a kernel must know of that convention (docs/INTEGRATION.md lists the functions, read from the archive's code):

@@ -4,13 +4,13 @@
 # printed. `--check` compares it with docs/INTEGRATION.md, where it stands between two marks; `--write` puts it there.
 set -euo pipefail
 cd "$(dirname "$0")/.."
-archive=target/staticlib/libskid.a
+archive=crates/skid/out/libskid.a
 page=docs/INTEGRATION.md
 begin='<!-- what the code uses: begin -->'
 end='<!-- what the code uses: end -->'
 objdump=objdump
 [ "$(uname -m)" = x86_64 ] || objdump=/usr/bin/x86_64-linux-gnu-objdump
-[ -e "$archive" ] || { echo "archive: no $archive: rt staticlib skid makes it" >&2; exit 1; }
+[ -e "$archive" ] || { echo "archive: no $archive: rt lib --cpu x86-64 in crates/skid makes it" >&2; exit 1; }
 
 # A use counts where an instruction shows it: an xmm register; an access below the stack pointer; an access to the stack by an SSE
 # instruction that faults where the address is no multiple of 16, which is each but the unaligned moves. A function that made a frame
@@ -27,7 +27,7 @@ list() {
         }
         !/^ *[0-9a-f]+:\t/ { next }
         { code = $0; sub(/^ *[0-9a-f]+:\t/, "", code); split(code, part, /[ \t]+/); operation = part[1] }
-        operation == "mov" && /%rsp,%rbp/ { print "archive: " name " makes a frame pointer" >"/dev/stderr"; bad = 1 }
+        code ~ /^mov +%rsp,%rbp *$/ { print "archive: " name " makes a frame pointer" >"/dev/stderr"; bad = 1 }
         /%[xyz]mm/ { sse[name] }
         /-0x[0-9a-f]+\(%rsp/ && operation != "lea" { red[name] }
         /%xmm/ && /\(%rsp/ && operation !~ /^(movups|movupd|movdqu|movd|movq|movss|movsd|mov[lh]p[sd])$/ { aligned[name] }
@@ -48,7 +48,7 @@ list() {
             print "| function | SSE registers | red zone | aligned stack |"
             print "|---|---|---|---|"
             for (i = 1; i <= count; i++) {
-                if (order[i] !~ /^skid_/ || order[i] ~ /^skid_interface_/) continue
+                if (order[i] !~ /^skid_[a-z_]+$/) continue
                 split("", reached)
                 reach(order[i])
                 print "| `" order[i] "` | " has(sse) " | " has(red) " | " has(aligned) " |" | "LC_ALL=C sort"

@@ -1,7 +1,7 @@
 #!/usr/bin/env bash
 # include/skid_arena.h: clean in C99, C11, C17 and C++17 by gcc and clang, hosted and for a kernel without SSE registers and red zone, where
 # a pressure arrives bit for bit; a governor, a panel and a logger through it over cold RAM of ten seeds, each figure checked; README's two
-# examples. The archive is that of target/staticlib. On x86-64 this program and those of tests/library.sh run under the address and
+# examples. The archive is that of crates/skid/out. On x86-64 this program and those of tests/library.sh run under the address and
 # undefined-behaviour sanitizers too, which see the programs and what the library gives to memcpy and memset, and under valgrind, where
 # it is at hand, which sees the library's own code. Elsewhere an emulator runs them, under which the first does not work; of the second
 # only its traps are used.
@@ -12,7 +12,7 @@ cd "$(dirname "$0")/.."
 # shellcheck source=tests/compilers.sh
 . tests/compilers.sh
 need_compilers
-archive=target/staticlib/libskid.a
+archive=crates/skid/out/libskid.a
 out=target/arena
 mkdir -p "$out"
 
@@ -20,7 +20,7 @@ fail() {
     echo "arena: $*" >&2
     exit 1
 }
-[ -e "$archive" ] || fail "no $archive: rt staticlib skid makes it"
+[ -e "$archive" ] || fail "no $archive: rt lib --cpu x86-64 in crates/skid makes it"
 
 # passes NAME SOURCE LAST FLAGS..: tests/c/SOURCE.c made with these flags (the compiler first) prints this last line
 passes() {
@@ -137,7 +137,7 @@ rustc=(rustc -D warnings)
 CARGO_PKG_VERSION=$(sed -n 's/^version = "\(.*\)"$/\1/p' rust/skid/Cargo.toml)
 export CARGO_PKG_VERSION
 "${rustc[@]}" --edition 2021 -O --crate-type rlib --crate-name skid rust/skid/src/lib.rs \
-    -L native=target/staticlib -l static=skid -o "$out/libskid.rlib"
-"${rustc[@]}" --edition 2021 -O "$out/readme.rs" --extern "skid=$out/libskid.rlib" -L native=target/staticlib -o "$out/readme_rust"
+    -L native=crates/skid/out -l static=skid -o "$out/libskid.rlib"
+"${rustc[@]}" --edition 2021 -O "$out/readme.rs" --extern "skid=$out/libskid.rlib" -L native=crates/skid/out -o "$out/readme_rust"
 [ "$("${run[@]}" "$out/readme_rust")" = 'Head { headers: 2, buckets: 4, next: 2, boot: 5 }' ] || fail "README's Rust example granted nothing"
 echo "README's examples in C and Rust: as they say"

@@ -22,7 +22,7 @@ What `check` holds:
 - the list of what a user does not get names every row that is `different` or `left out`, and no other;
 - the table of premises has every word of ours that the records use;
 - every must-fail edit that a page of docs names is there, and every wrong build that docs/DIFFERENCES.md names in the
-  table of what upstream leaves open has its `accepted-..` and `rejected-..`."""
+  table of what upstream leaves open has its `accepted_..` and `rejected_..`."""
 import functools
 import os
 import re
@@ -34,23 +34,23 @@ SOURCES = {'000': 'ownership.verus.rs.txt', '001': 'guards.verus.rs.txt'}
 VERDICTS = ('same', 'stronger', 'refused instead of required', 'different', 'left out')
 KINDS = {'r': 'requires', 'e': 'ensures', 'n': 'without a clause', 'i': 'of a loop', 'd': 'of a loop'}
 # the constructor of a call in a promise, and the call's name
-CALLS = {'try-acquire': 'try_acquire', 'drop-lease': 'drop_lease', 'read-permission': 'read_permission',
-         'competing-acquire': 'competing_acquire_is_excluded', 'release-then-handoff': 'release_then_handoff',
-         'foreign-release': 'foreign_release_between_attempts', 'drop-preserving': 'drop_preserving_borrows',
-         'acquire-preserving': 'acquire_preserving_borrows', 'environment': 'environment', 'try-lock': 'try_lock',
-         'transactional': 'transactional_try_lock_bucket', 'acquire-bucket': 'acquire_index_bucket',
-         'release-all': 'release_all', 'acquire-locks': 'acquire_index_locks'}
+CALLS = {'try_acquire_lem': 'try_acquire', 'drop_lease': 'drop_lease', 'read_permission': 'read_permission',
+         'competing_acquire': 'competing_acquire_is_excluded', 'release_then_handoff': 'release_then_handoff',
+         'foreign_release': 'foreign_release_between_attempts', 'drop_preserving': 'drop_preserving_borrows',
+         'acquire_preserving': 'acquire_preserving_borrows', 'environment': 'environment', 'try_lock_lem': 'try_lock',
+         'transactional': 'transactional_try_lock_bucket', 'acquire_bucket': 'acquire_index_bucket',
+         'release_all_lem': 'release_all', 'acquire_locks': 'acquire_index_locks'}
 # what a verdict says in these words, the field of `Here` must be: a pattern, or None for the field of `Ensures` itself
 WORDS = {'always': None,
-         'cell by cell': r'keeps-valid w \(final m\)',
+         'cell by cell': r'keeps_valid w \(final m\)',
          'needs only the held leases':
-             r'(leases-authorized w \(holdsOf held\)|protected-valid w \(held-ids \(holdsOf held\)\)) → '
-             r'(?!.*valid-at w).*',
-         'needs only the lease': r'authorized w \(holdIn l\) → [^→]*',
-         'its cell only': r'(?!.*\bvalid w\b).*valid-at w \(lease-key \(holdIn l\)\) → .*'}
+             r'(leases_authorized w \(holds_of held\)|protected_valid w \(held_ids \(holds_of held\)\)) → '
+             r'(?!.*valid_at w).*',
+         'needs only the lease': r'authorized w \(hold_in l\) → [^→]*',
+         'its cell only': r'(?!.*\bvalid w\b).*valid_at w \(lease_key \(hold_in l\)\) → .*'}
 # words of ours outside file Premises
-FURTHER = ['Damage.Damage', 'Damage.Drops-damaged', 'Damage.waited', 'Damage.Sets-waiters',
-           'Health.Sick-again', 'Health.Sick', 'Health.Sick-within', 'Health.Read-again', 'Health.Reads-poison']
+FURTHER = ['Damage.Damage', 'Damage.DropsDamaged', 'Damage.waited', 'Damage.SetsWaiters',
+           'Health.SickAgain', 'Health.Sick', 'Health.SickWithin', 'Health.ReadAgain', 'Health.ReadsPoison']
 
 wrong = []
 # a file's path -> a text that is read in its place (tests/contracts-damaged.py)
@@ -75,6 +75,11 @@ def code(lines):
 
 def squeeze(text):
     return re.sub(r'\s', '', text)
+
+
+def snake(name):
+    """the name of a lemma about the record of that name: try_lock of TryLock"""
+    return re.sub(r'(?<!^)([A-Z])', r'_\1', name).lower()
 
 
 # ---- crate upstream
@@ -155,7 +160,7 @@ def fields(lines):
     found, above, name = {}, [], None
     for line in lines:
         text = line.strip()
-        field = re.match(r'pub ([\w-]+) : (.*)', text)
+        field = re.match(r'pub (\w+) : (.*)', text)
         if text.startswith('-- '):
             above.append(text[3:])
         elif field:
@@ -180,32 +185,32 @@ class Upstream:
         for file in names:
             if file.startswith('Contract'):
                 for name in self.files[file].order:
-                    kind = re.match(r'(Requires|Ensures|Contract|Here|Promise)-(.*)', name)
+                    kind = re.match(r'(Requires|Ensures|Contract|Here|Promise)([A-Z].*)', name)
                     if kind:
                         self.home.setdefault(kind.group(2), file)
         # other names of a contract, and each line that says of a build that it keeps a promise or meets a contract, or
         # of arguments that they meet what is required
-        aliases = dict(re.findall(r'(?m)^([\w-]+) \w+ = Contract-([\w-]+) ', '\n'.join(self.texts.values())))
+        aliases = dict(re.findall(r'(?m)^(\w+) \w+ = Contract([A-Z]\w*) ', '\n'.join(self.texts.values())))
         self.said = []
         for file in names:
-            signature = r'(?m)^(pub [\w-]+ : (?:\(b : Build\) → )?([A-Z][\w-]*) .*)$'
+            signature = r'(?m)^(pub \w+ : (?:\(b : Build\) → )?([A-Z]\w*) .*)$'
             for line, what in re.findall(signature, self.texts[file]):
-                about = re.match(r'(?:Contract|Promise|Requires)-(.*)', what)
+                about = re.match(r'(?:Contract|Promise|Requires)([A-Z].*)', what)
                 if about or what in aliases:
                     self.said.append((about.group(1) if about else aliases[what], file, line))
 
     def records(self, function):
-        names = [kind + '-' + function for kind in ('Requires', 'Ensures', 'Here', 'Contract', 'Promise')]
+        names = [kind + function for kind in ('Requires', 'Ensures', 'Here', 'Contract', 'Promise')]
         return [name for name in names if name in self.files[self.home[function]].decls]
 
     def fields(self, kind, function):
         decls = self.files[self.home[function]].decls
-        return fields(tuple(decls.get(kind + '-' + function, ())))
+        return fields(tuple(decls.get(kind + function, ())))
 
     def call(self, function):
         """the call that the promise is about"""
-        text = ' '.join(self.files[self.home[function]].decls['Promise-' + function])
-        return CALLS.get(re.search(r'b w \(([\w-]+)', text).group(1))
+        text = ' '.join(self.files[self.home[function]].decls['Promise' + function])
+        return CALLS.get(re.search(r'b w \((\w+)', text).group(1))
 
     def theorems(self, function):
         """who keeps the promise and meets the contract: ours, as (file, line), and wrong builds, as File.name"""
@@ -402,7 +407,7 @@ def made(page, crate):
     """the page with the parts that are made; and those that were not as they are made"""
     out, stale, shown, i = [], [], [], 0
     while i < len(page.lines):
-        mark = re.match(r'<!-- (index|words|records ([\w-]+)) -->$', page.lines[i])
+        mark = re.match(r'<!-- (index|words|records (\w+)) -->$', page.lines[i])
         if not mark:
             out.append(page.lines[i])
             i += 1
@@ -521,7 +526,7 @@ def check_numbers(row, field, whole, names):
 
 def check_alike(row, asked, sayings):
     """one clause is one statement in all functions, but where it is different; the key of `store` is its lease's"""
-    said = asked.replace('(lease-key (holdIn l))', 'key')
+    said = asked.replace('(lease_key (hold_in l))', 'key')
     if row.verdict != 'different' and sayings.setdefault((row.kind, row.quote), said) != said:
         complain('%s: elsewhere its clause is said so: %s' % (row.name, sayings[row.kind, row.quote]))
 
@@ -592,7 +597,7 @@ def check_loops(page, listed):
             if not row.here.startswith('nothing to keep'):
                 complain('%s: no field, and it does not say that there is nothing to keep' % row.name)
             continue
-        place = re.match(r'(\w+): ([\w-]+)\.([\w-]+)\.([\w-]+)$', row.last)
+        place = re.match(r'(\w+): (\w+)\.(\w+)\.(\w+)$', row.last)
         crate, file, record, field = place.groups() if place else ('', '', '', '')
         if not os.path.isfile(os.path.join(ROOT, 'crates', crate, 'specs', file + '.antt')):
             complain('%s: no such file: %s' % (row.name, row.last))
@@ -608,16 +613,17 @@ def check_made(page, listed, crate):
         if shown.count(record) != 1:
             complain('records %s: %d blocks on the page' % (record, shown.count(record)))
         proved = [line for _, line in crate.theorems(record)[0]]
-        need = ['pub promise-%s : Promise-%s perform' % (record, record)]
-        if 'Contract-' + record in crate.records(record):
-            need += ['pub implied-%s : (b : Build) → Promise-%s b → Contract-%s b' % (record, record, record),
-                     'pub meets-%s : Contract-%s perform' % (record, record)]
+        name = snake(record)
+        need = ['pub promise_%s : Promise%s perform' % (name, record)]
+        if 'Contract' + record in crate.records(record):
+            need += ['pub implied_%s : (b : Build) → Promise%s b → Contract%s b' % (name, record, record),
+                     'pub meets_%s : Contract%s perform' % (name, record)]
         for line in need:
             if line not in proved:
                 complain('records %s: the crate does not say "%s"' % (record, line))
-        met = 'pub met-%s : Requires-%s ' % (record, record)
-        if 'Requires-' + record in crate.records(record) and not any(line.startswith(met) for line in proved):
-            complain('records %s: no arguments meet what is required, by the name met-%s' % (record, record))
+        met = 'pub met_%s : Requires%s ' % (name, record)
+        if 'Requires' + record in crate.records(record) and not any(line.startswith(met) for line in proved):
+            complain('records %s: no arguments meet what is required, by the name met_%s' % (record, name))
     for record in sorted({r for _, rs in listed.functions.values() for r in rs} ^ set(crate.home)):
         complain('records %s: of no function, or not in the crate' % record)
 
@@ -650,9 +656,9 @@ def check_names(page, crate):
         if lemma != '-' and lemma.split('.')[1] not in crate.files['Vocabulary'].decls:
             complain('%s.%s: %s is not declared' % (doc, name, lemma))
     table = re.search(r"(?ms)^\| upstream.s contract allows .*?\n\n", read('docs', 'DIFFERENCES.md')).group(0)
-    builds = [b for line in table.split('\n')[2:] if line for b in re.findall(r'`([a-z-]+)`', cells_of(line)[-1])]
+    builds = [b for line in table.split('\n')[2:] if line for b in re.findall(r'`([a-z_-]+)`', cells_of(line)[-1])]
     for build in builds:
-        for fate in ('accepted-', 'rejected-'):
+        for fate in ('accepted_', 'rejected_'):
             if not any(fate + build in f.decls for f in crate.files.values()):
                 complain('docs/DIFFERENCES.md names %s, and the crate has no %s%s' % (build, fate, build))
 

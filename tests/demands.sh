@@ -1,6 +1,6 @@
 #!/bin/bash
 # docs/DEMANDS.md against the theory: every theorem and lemma that its tables name is a `pub` declaration of crate model, laws, history, history_exact, crew_theory,
-# sorted_theory, crew_at_work_theory, pinned, book_theory, salvage_theory, boot_theory, book_pinned or builds; and every theorem of a file `Theorems`, and every lemma `..-falls` of crates wrong_builds and
+# sorted_theory, crew_at_work_theory, pinned, book_theory, salvage_theory, boot_theory, book_pinned or builds; and every theorem of a file `Theorems`, and every lemma `.._falls` of crates wrong_builds and
 # book_pinned, stands on the page.
 # Prints what is wrong, or how many names it found; ends with 1 if anything is wrong.
 cd "$(dirname "$0")/.." || exit 1
@@ -10,7 +10,7 @@ page=docs/DEMANDS.md
 names=$(awk -F'|' '
     /^\|/ && !table { table = 1; n = 0; for (i = 2; i < NF; i++) if ($i ~ /^ (theorem|theorem that it fails|lemma) $/) col[++n] = i; next }
     !/^\|/ { table = 0; next }
-    { for (j = 1; j <= n; j++) print $(col[j]) }' "$page" | grep -oE '`[a-z][a-z0-9-]*[ `]' | tr -d '` ' | sort -u)
+    { for (j = 1; j <= n; j++) print $(col[j]) }' "$page" | grep -oE '`[a-z][a-z0-9_-]*[ `]' | tr -d '` ' | sort -u)
 [ -n "$names" ] || { echo "$page: no names"; exit 1; }
 specs=$(ls -d crates/{model,laws,history,history_exact,crew_theory,sorted_theory,crew_at_work_theory,pinned,book_theory,salvage_theory,boot_theory,book_pinned,wrong_builds}/specs)
 wrong=$(
@@ -18,7 +18,7 @@ wrong=$(
         grep -rqs "^ *pub $name : " $specs || echo "$name is declared nowhere"
     done
     { sed -n 's/^pub \([^ ]*\) : .*/\1/p' crates/{history,history_exact,crew_theory,sorted_theory,crew_at_work_theory,pinned,book_theory,salvage_theory,boot_theory,book_pinned}/specs/Theorems.antt
-      sed -n 's/^pub \([^ ]*-falls\) : .*/\1/p' crates/{wrong_builds,book_pinned}/specs/*.antt; } | sort -u | while read -r name; do
+      sed -n 's/^pub \([^ ]*_falls\) : .*/\1/p' crates/{wrong_builds,book_pinned}/specs/*.antt; } | sort -u | while read -r name; do
         grep -qF -e "\`$name\`" -e "\`$name " "$page" || echo "$name is not on $page"
     done
 )

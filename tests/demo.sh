@@ -17,7 +17,7 @@ fail() {
     exit 1
 }
 if ! command -v vcd2fst >/dev/null || ! command -v fst2vcd >/dev/null; then install_packages gtkwave; fi
-[ -e target/staticlib/libskid.a ] || fail "no target/staticlib/libskid.a: rt staticlib skid makes it"
+[ -e crates/skid/out/libskid.a ] || fail "no crates/skid/out/libskid.a: rt lib --cpu x86-64 in crates/skid makes it"
 
 # ends WANTED NAME WORDS..: demo/run.sh with these words ends so; what it prints is in $room/said
 ends() {

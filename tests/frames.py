@@ -134,7 +134,7 @@ def main():
     found = functions(line.rstrip("\n") for line in sys.stdin)
     frames = {name: frame(name, body) for name, body in found.items()}
     for name in sorted(frames):
-        if re.match(r"skid_(?!interface_)", name):
+        if re.fullmatch(r"skid_(?!interface_)[a-z_]+", name):
             print(name, most(name, frames) + 8 + lent[name])
 
 

@@ -2,7 +2,7 @@
 # install.sh: the library put into an empty folder; the programs of docs/INTEGRATION.md compiled from there, outside the repository, by
 # pkg-config's flags alone, in C and C++, and run, each with the output that the page shows; one program by CMake, where it is at hand, and
 # one in Rust by cargo; then all of it taken away again, and nothing is left but what was there before. A second installing over the first
-# is as the first; a hash that is written to the changelog is found there. The archive is that of target/staticlib.
+# is as the first; a hash that is written to the changelog is found there. The archive is that of crates/skid/out.
 set -euo pipefail
 cd "$(dirname "$0")/.."
 # shellcheck source=tests/lib.sh
@@ -31,11 +31,11 @@ bash install.sh "$prefix" >"$room/first"
 bash install.sh "$prefix" >"$room/second"
 cmp "$room/first" "$room/second" || fail "a second installing says something else"
 (cd "$prefix" && find . -type f | sort | xargs sha256sum) | cmp - "$room/sums" || fail "a second installing leaves something else"
-tail -n 1 "$room/first" | grep -qF "$(sha256sum target/staticlib/libskid.a | cut -d' ' -f1)" || fail "it does not print the archive's hash"
+tail -n 1 "$room/first" | grep -qF "$(sha256sum crates/skid/out/libskid.a | cut -d' ' -f1)" || fail "it does not print the archive's hash"
 # ---- the hash: written into a copy of the changelog it is found there, beside that of another host; a wrong one is not
 cp -r install.sh CHANGELOG.md "$room"
-mkdir -p "$room/target/staticlib"
-cp target/staticlib/libskid.a "$room/target/staticlib"
+mkdir -p "$room/crates/skid/out"
+cp crates/skid/out/libskid.a "$room/crates/skid/out"
 count() { awk '/^## / { n++ } n == 1' "$room/CHANGELOG.md" | grep -c 'The archive of this version has the SHA-256' || true; }
 sed -i 's/ on an Arm host/ on a host of another kind/; s/ on an x86-64 host/ on a host of another kind/' "$room/CHANGELOG.md"
 others=$(count)
@@ -43,7 +43,7 @@ bash "$room/install.sh" --hash write
 bash "$room/install.sh" --hash write
 [ "$(count)" = $((others + 1)) ] || fail "this host's hash has not one line"
 bash "$room/install.sh" --hash check
-echo >>"$room/target/staticlib/libskid.a"
+echo >>"$room/crates/skid/out/libskid.a"
 ! bash "$room/install.sh" --hash check 2>/dev/null || fail "an archive that the changelog does not name is taken"
 # A version that was not made on a host of this kind has no hash of it; that is said, and is no failure.
 if ! bash install.sh --hash check 2>"$room/said"; then

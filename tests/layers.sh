@@ -23,6 +23,7 @@ among() {
 
 crates=0
 while IFS=: read -r name needs; do
+    name=${name% staticlib}
     crates=$((crates + 1))
     for needed in $needs; do
         if among "$name" "$base $theory"; then
@@ -37,7 +38,7 @@ while IFS=: read -r name needs; do
 done < <(grep -v '^#' crates.txt | grep .)
 
 for name in $base $theory $callers; do
-    grep -q "^$name:" crates.txt || complain "tests/layers.sh lists $name, which is no crate"
+    grep -qE "^$name( staticlib)?:" crates.txt || complain "tests/layers.sh lists $name, which is no crate"
 done
 for file in crates/"$exports"/src/*.rt; do
     ! grep -Hn 'requires' "$file" || complain "$file: an exported call has no requires"

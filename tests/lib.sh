@@ -33,31 +33,42 @@ crates_of() {
         }' crates.txt
 }
 
-# program_is_old NAME: whether there is no such program in target/bin, or a source that it is made of is newer.
-program_is_old() {
-    [ -e "target/bin/$1" ] || return 0
-    [ -n "$(find crates.txt $(crates_of "$1" | sed 's,^,crates/,') -newer "target/bin/$1" \
+# The library, as `rt lib` writes it.
+archive=crates/skid/out/libskid.a
+
+# is_old FILE NAME: whether there is no such file, or a source of crate NAME or of one that it reaches is newer.
+is_old() {
+    [ -e "$1" ] || return 0
+    [ -n "$(find crates.txt $(crates_of "$2" | sed 's,^,crates/,') -name out -prune -o -newer "$1" \
         \( -name '*.rt' -o -name '*.antt' -o -name crates.txt \) -print -quit)" ]
 }
 
-# build_program NAME: proves and builds it. A source that changes meanwhile is newer than what was built.
-build_program() {
-    local began
+# build_file FILE WORDS..: calls prove.sh with these words, which makes the file. A source that changes meanwhile is newer than it.
+build_file() {
+    local file=$1 began
+    shift
     began=$(mktemp)
-    bash tests/prove.sh check "$1" || { rm -f "$began"; return 1; }
-    touch -r "$began" "target/bin/$1"
+    bash tests/prove.sh "$@" || { rm -f "$began"; return 1; }
+    [ -e "$file" ] || { rm -f "$began"; echo "there is no $file"; return 1; }
+    touch -r "$began" "$file"
     rm -f "$began"
 }
 
-# program NAME: a program of target/bin on this standard input. It is an x86-64 program; on another machine it runs as the kit runs
-# programs there, under its emulator and its own loader and C library.
+# program_is_old NAME: whether that program is not built, or a source that it is made of is newer.
+program_is_old() { is_old "crates/$1/out/$1" "$1"; }
+
+# build_program NAME: proves and builds it.
+build_program() { build_file "crates/$1/out/$1" run "$1"; }
+
+# program NAME: a program on this standard input. It is an x86-64 program; on another machine it runs as the kit runs programs there,
+# under its emulator and its own loader and C library.
 program() {
     local tools word
     (
-        [ "$(uname -m)" != x86_64 ] || exec "target/bin/$1"
+        [ "$(uname -m)" != x86_64 ] || exec "crates/$1/out/$1"
         for word in $(env | sed -n 's/^\(QEMU_[A-Za-z0-9_]*\)=.*/\1/p'); do unset "$word"; done
         tools=$(kit)/on/$(uname -m)/toolchain
-        exec "$tools/bin/qemu-x86_64" "$tools/lib/ld-linux-x86-64.so.2" --library-path "$tools/lib" "target/bin/$1"
+        exec "$tools/bin/qemu-x86_64" "$tools/lib/ld-linux-x86-64.so.2" --library-path "$tools/lib" "crates/$1/out/$1"
     )
 }
 
@@ -124,11 +135,7 @@ plain_bench_program=target/rust/release/bench
 line_editor=()
 
 # library_is_old: whether there is no archive, or a source that it is made of is newer.
-library_is_old() {
-    [ -e target/staticlib/libskid.a ] || return 0
-    [ -n "$(find crates.txt $(crates_of skid | sed 's,^,crates/,') -newer target/staticlib/libskid.a \
-        \( -name '*.rt' -o -name '*.antt' -o -name crates.txt \) -print -quit)" ]
-}
+library_is_old() { is_old "$archive" skid; }
 
 # as_root WORDS..: a command as the one who may install packages.
 as_root() {
@@ -166,13 +173,10 @@ need_cross() {
 
 # build_library: proves the layers and builds the library, if a source has changed.
 build_library() {
-    local began start=$SECONDS
+    local start=$SECONDS
     library_is_old || return 0
     echo "proving the layers and building the library: some minutes, a line for each layer"
-    began=$(mktemp)
-    bash tests/prove.sh staticlib skid || { rm -f "$began"; return 1; }
-    touch -r "$began" target/staticlib/libskid.a
-    rm -f "$began"
+    build_file "$archive" lib skid || return 1
     echo "proved and built the library, $((SECONDS - start)) s"
 }
 

@@ -7,7 +7,7 @@ cd "$(dirname "$0")/.."
 # shellcheck source=tests/lib.sh
 . tests/lib.sh
 out=target/library
-archive=target/staticlib/libskid.a
+archive=crates/skid/out/libskid.a
 mkdir -p "$out"
 
 fail() {
@@ -63,10 +63,10 @@ passes "$out/wave_c" "waveform in C: passed"
 CARGO_PKG_VERSION=$(sed -n 's/^version = "\(.*\)"$/\1/p' rust/skid/Cargo.toml)
 export CARGO_PKG_VERSION
 "${rustc[@]}" --edition 2021 -O --crate-type rlib --crate-name skid rust/skid/src/lib.rs \
-    -L native=target/staticlib -l static=skid -o "$out/libskid.rlib"
+    -L native=crates/skid/out -l static=skid -o "$out/libskid.rlib"
 "${rustc[@]}" --edition 2021 -O rust/skid/examples/bench.rs \
-    --extern "skid=$out/libskid.rlib" -L native=target/staticlib -o "$out/bench_rust"
+    --extern "skid=$out/libskid.rlib" -L native=crates/skid/out -o "$out/bench_rust"
 passes "$out/bench_rust" "bench cases in Rust: 16 passed"
 "${rustc[@]}" --edition 2021 -O rust/skid/examples/wave.rs \
-    --extern "skid=$out/libskid.rlib" -L native=target/staticlib -o "$out/wave_rust"
+    --extern "skid=$out/libskid.rlib" -L native=crates/skid/out -o "$out/wave_rust"
 passes "$out/wave_rust" "waveform in Rust: passed"

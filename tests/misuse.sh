@@ -1,7 +1,7 @@
 #!/usr/bin/env bash
 # Misuse of include/skid_arena.h that must not compile, each with the error that it must give, in C99, C11, C17 and C++17 by gcc and
 # clang; the same program without the misuse compiles. And a program that was compiled against another interface than the archive's: it
-# must not link, from C and from Rust. The archive is that of target/staticlib.
+# must not link, from C and from Rust. The archive is that of crates/skid/out.
 set -euo pipefail
 cd "$(dirname "$0")/.."
 # shellcheck source=tests/lib.sh
@@ -121,10 +121,10 @@ does_not_link() {
 }
 for cc in "$gcc" "$clang"; do
     # shellcheck disable=SC2086
-    $cc -Iinclude "$out/nothing.c" target/staticlib/libskid.a -o "$out/nothing"
+    $cc -Iinclude "$out/nothing.c" crates/skid/out/libskid.a -o "$out/nothing"
     for flags in -O0 '-O2 -ffunction-sections -fdata-sections -Wl,--gc-sections' '-O2 -flto'; do
         # shellcheck disable=SC2086
-        does_not_link "$cc $flags, another interface" $cc $flags "-I$out/include" "$out/nothing.c" target/staticlib/libskid.a -o "$out/nothing"
+        does_not_link "$cc $flags, another interface" $cc $flags "-I$out/include" "$out/nothing.c" crates/skid/out/libskid.a -o "$out/nothing"
     done
 done
 
@@ -137,8 +137,8 @@ echo 'fn main() { println!("{}", skid::raw::read_setpoint(skid::Head { headers: 
 # rust_program SRC: a program on the Rust face whose sources are in SRC
 rust_program() {
     "${rustc[@]}" --edition 2021 -O --crate-type rlib --crate-name skid "$1/lib.rs" \
-        -L native=target/staticlib -l static=skid -o "$out/libskid.rlib" &&
-        "${rustc[@]}" --edition 2021 -O "$out/asks.rs" --extern "skid=$out/libskid.rlib" -L native=target/staticlib -o "$out/asks"
+        -L native=crates/skid/out -l static=skid -o "$out/libskid.rlib" &&
+        "${rustc[@]}" --edition 2021 -O "$out/asks.rs" --extern "skid=$out/libskid.rlib" -L native=crates/skid/out -o "$out/asks"
 }
 rust_program rust/skid/src
 cp -r rust/skid/src "$out/src"

@@ -20,7 +20,7 @@ trap 'rm -rf "$room"' EXIT
 
 # declarations: of the definitions and proofs: what stands before a colon at a line's beginning, and records and data
 declarations() {
-    find crates -name '*.antt' -print0 | xargs -0 awk '
+    find crates -name out -prune -o -name '*.antt' -print0 | xargs -0 awk '
         FNR == 1 {
             split(FILENAME, part, "/")
             crate = part[2]
@@ -33,10 +33,10 @@ declarations() {
             line = $0
             sub(/^ +/, "", line)
             sub(/^[|] /, "", line)
-            while (sub(/^(abbrev|unfoldable|pub|record|data|module|where) /, "", line)) kind = 1
-            if (line ~ /^[^ :(){}=]+( [^ :(){}=]+)* :( |$)/) {
+            while (sub(/^(abbrev|unfoldable|opaque|pub|record|data|module|where) /, "", line)) kind = 1
+            if (line ~ /^[^ :(){}=,]+(,? [^ :(){}=,]+)* :( |$)/) {
                 sub(/ :( .*)?$/, " :", line)
-                n = split(substr(line, 1, index(line, " :") - 1), name, " ")
+                n = split(substr(line, 1, index(line, " :") - 1), name, /,? /)
                 for (i = 1; i <= n; i++) print crate, file, name[i]
             } else if (kind) {
                 sub(/[ :].*/, "", line)
@@ -47,9 +47,9 @@ declarations() {
 }
 # words: of the source, comments left out. What the checker has proved names nothing that is not there, in the kit or here.
 words() {
-    find crates -name '*.antt' -print0 | xargs -0 awk '
+    find crates -name out -prune -o -name '*.antt' -print0 | xargs -0 awk '
         { sub(/(^| )-- .*/, ""); gsub(/[^A-Za-z0-9_-]+/, " "); for (i = 1; i <= NF; i++) if (!seen[$i]++) print "- -", $i }'
-    find crates -name '*.rt' -print0 | xargs -0 awk '
+    find crates -name out -prune -o -name '*.rt' -print0 | xargs -0 awk '
         FNR == 1 { split(FILENAME, part, "/"); crate = part[2]; file = FILENAME; sub(/.*\//, "", file); sub(/\.rt$/, "", file) }
         { sub(/\/\/.*/, ""); gsub(/[^A-Za-z0-9_]+/, " "); for (i = 1; i <= NF; i++) if (!seen[crate, file, $i]++) print crate, file ".rt", $i }'
     find rust include tests/c bench \( -name '*.rs' -o -name '*.h' -o -name '*.c' -o -name '*.toml' \) -print0 | xargs -0 awk '
@@ -80,7 +80,7 @@ files() {
         }'
 }
 { declarations && words && files; } >"$room/there"
-sed -n 's/^\([a-z0-9_]*\):.*/\1/p' crates.txt >"$room/crates"
+sed -nE 's/^([a-z0-9_]+)( staticlib)?:.*/\1/p' crates.txt >"$room/crates"
 
 # ---- what the pages say
 
@@ -116,7 +116,7 @@ wrong_names() {
         }
         function looks_like_a_name(word) {
             if (length(word) == 64 && word !~ /[^0-9a-f]/) return 0 # a hash
-            return word ~ /^[A-Za-z][A-Za-z0-9]*([-_][A-Za-z0-9]+)*$/ && word ~ /[a-z].*[a-z]|_/ && word !~ /-f$/ # Ensures-f: of any f
+            return word ~ /^[A-Za-z][A-Za-z0-9]*([-_][A-Za-z0-9]+)*$/ && word ~ /[a-z].*[a-z]|_/ && word !~ /^((Requires|Ensures|Here|Contract|Promise)F|(promise|implied|meets|met)_f)$/ # EnsuresF: of any f
         }
         # a word by itself
         function judge_word(word, name) {
@@ -137,9 +137,9 @@ wrong_names() {
         }
         # a span: one word, or several
         function judge(span, n, part, i) {
-            if (span ~ /^[A-Z][A-Za-z]*\.[A-Za-z][A-Za-z0-9-]*$/) { judge_file_name(span); return }
+            if (span ~ /^[A-Z][A-Za-z]*\.[A-Za-z][A-Za-z0-9_-]*$/) { judge_file_name(span); return }
             if (span ~ /^[A-Za-z0-9_.-]+(\/[A-Za-z0-9_.*-]+)+\/?$/) {
-                if (span ~ /^target\/|\*|\.\.|(^|\/)[A-Z]+(\/|\.)/ && span !~ /^docs\//) return
+                if (span ~ /^target\/|^(crates\/[a-z0-9_]+\/)?out\/|\*|\.\.|(^|\/)[A-Z]+(\/|\.)/ && span !~ /^docs\//) return
                 sub(/\/$/, "", span)
                 checked++
                 if (!(span in any)) complain(span, "is no file")
@@ -147,7 +147,7 @@ wrong_names() {
             }
             n = split(span, part, /::| +/)
             for (i = 1; i <= n; i++) {
-                if (part[i] ~ /^[A-Z][A-Za-z]*\.[A-Za-z][A-Za-z0-9-]*$/) judge_file_name(part[i])
+                if (part[i] ~ /^[A-Z][A-Za-z]*\.[A-Za-z][A-Za-z0-9_-]*$/) judge_file_name(part[i])
                 else if (n == 1 || part[i] ~ /[-_]|[a-z][A-Z]/ || span ~ /::/) judge_word(part[i])
             }
         }
@@ -215,10 +215,11 @@ wrong_names() {
 
 # ---- the test tried on itself: each line of this page has a wrong name
 cat >"$room/damaged.md" <<'END'
-`Dump.turnOf`
-`Calls.tryLockOff`
+`Dump.turn_of`
+`Calls.try_lock_off`
+`never_proved_lemma`
+`.never_proved_field`
 `never-proved-lemma`
-`.never-proved-field`
 `neverWrittenDown`
 `never_written_down`
 `NeverWrittenDown`
@@ -226,14 +227,14 @@ cat >"$room/damaged.md" <<'END'
 `lease::never_written_down`
 `tests/never.sh`
 crate `neverwritten`
-`tryLockOf` of crate `swaps`
-`sorted-is` and `two-releases` of `laws`
-| `one-after-another` (`history`) |
-`prepareOf`, crate `model`, file `Lock`
-| `script-consumed` | history | what it says |
-| `prepareOf` | model, `Lock` | what it says |
-| `script-consumed` | `history` | what it says |
-| `prepareOf` | `model`, `Lock` | what it says |
+`try_lock_of` of crate `swaps`
+`sorted_is` and `two_releases` of `laws`
+| `one_after_another` (`history`) |
+`prepare_of`, crate `model`, file `Lock`
+| `script_consumed` | history | what it says |
+| `prepare_of` | model, `Lock` | what it says |
+| `script_consumed` | `history` | what it says |
+| `prepare_of` | `model`, `Lock` | what it says |
 END
 : >"$room/used"
 wrong_names "$room/damaged.md" | sed 's/^[^:]*:\([0-9]*\) .*/\1/' | sort -n -u >"$room/found"

@@ -16,10 +16,10 @@ events="$(names Actor crates/model/specs/Log.antt) $(names Event crates/model/sp
 calls=$(names Call crates/history/specs/Items.antt)
 allowed() {
     case $1 in
-    Rattle·model.specs.Log) echo "Event Made $events" ;;
-    Rattle·history.specs.World) echo 'World' ;;
-    Rattle·history.specs.Items) echo "Build Stepper Says Call $calls" ;;
-    Rattle·history.specs.Statements) echo 'Crew-build Crew-at-work-build' ;;
+    Rattle.model.specs.Log) echo "Event Made $events" ;;
+    Rattle.history.specs.World) echo 'World' ;;
+    Rattle.history.specs.Items) echo "Build Stepper Says Call $calls" ;;
+    Rattle.history.specs.Statements) echo 'CrewBuild CrewAtWorkBuild' ;;
     esac
 }
 
@@ -29,27 +29,21 @@ looks() {
     for file in "${@:2}"; do
         crate=${file%/*} path=$folder/${file%/*}/specs/${file#*/}.antt
         [ -s "$path" ] || { echo "$file.antt is not there"; continue; }
-        grep -n '^ *[^- ]' "$path" | grep -v '^[0-9]*:use ' | sed 's/ -- .*//' | grep 'Rattle·' | sed "s|^|$file.antt: a name outside its use lines: |" || true
+        grep -n '^ *[^- ]' "$path" | grep -v '^[0-9]*:use ' | sed 's/ -- .*//' | grep 'Rattle[.·]' | sed "s|^|$file.antt: a name outside its use lines: |" || true
         while read -r line; do
             case $line in
-            'use Prim.'* | 'use mathlib.'* | 'use lib.'* | 'use Rattle·types.specs.declared.'*) continue ;;
-            'use Rattle·setpoint.specs.declared.'* | 'use Rattle·book_rules.specs.declared.'*) continue ;;
+            'use Rattle.std.specs.'* | 'use Rattle.types.specs.declared.'*) continue ;;
+            'use Rattle.setpoint.specs.declared.'* | 'use Rattle.book_rules.specs.declared.'*) continue ;;
             esac
             module=$(sed -E 's/^use ([^ ]*)\.\{.*/\1/' <<< "$line")
-            case $module in
-            "Rattle·$crate·specs.specs."*)
-                case " $files " in *" $crate/${module##*.} "*) ;; *) echo "$file.antt names the file ${module##*.}" ;; esac
+            if [[ $module =~ ^Rattle\.($crate|pinned)\.specs\.(.*)$ ]]; then
+                case " $files " in *" ${BASH_REMATCH[1]}/${BASH_REMATCH[2]} "*) ;; *) echo "$file.antt names the file ${BASH_REMATCH[2]}" ;; esac
                 continue
-                ;;
-            Rattle·pinned.specs.*)
-                case " $files " in *" pinned/${module##*.} "*) ;; *) echo "$file.antt names the file ${module##*.}" ;; esac
-                continue
-                ;;
-            esac
+            fi
             while read -r name; do
                 case " $(allowed "$module") " in *" $name "*) ;; *) echo "$file.antt names $name, by ${line:0:120}" ;; esac
             done < <(sed -E 's/^use [^{]*\{//; s/\}$//' <<< "$line" | tr ',' '\n' | sed 's/^ *//; s/ *$//')
-        done < <(grep '^ *\(pub \|unfoldable \)*use ' "$path")
+        done < <(grep '^ *\(pub \|unfoldable \|opaque \)*use ' "$path")
     done
 }
 
@@ -79,19 +73,19 @@ damaged() {
 }
 
 wrong=$(
-    damaged pinned/Words 'use Rattle·model.specs.Arena.{shapeFits}'
-    damaged pinned/Checks 'use Rattle·model.specs.Checks as rules'
-    damaged pinned/Steps 'use Rattle·types.specs.Head.{cellsOf}'
-    damaged pinned/Steps 'use Rattle·model.specs.Log.{Made, gives}'
-    damaged pinned/Statements 'use Rattle·history.specs.Items.{Call, perform}'
-    damaged pinned/Statements 'use Rattle·pinned·specs.specs.Decided.{matched}'
-    damaged pinned/Statements 'size = Rattle·types.specs.Head.cellsOf'
-    damaged book_pinned/Statement 'use Rattle·book_rules.specs.Layout.{isSound}'
-    damaged book_pinned/Statement 'use Rattle·book_rules.specs.Writing as writing'
-    damaged book_pinned/Statement 'use Rattle·setpoint.specs.Codec.{settingOf}'
-    damaged book_pinned/Statement 'use Rattle·model.specs.Arena.{shapeFits}'
-    damaged book_pinned/Statement 'use Rattle·pinned.specs.Decided.{Decides}'
-    damaged book_pinned/Statement 'use Rattle·book_pinned·specs.specs.Plain.{place-is}'
+    damaged pinned/Words 'use Rattle.model.specs.Arena.{shape_fits}'
+    damaged pinned/Checks 'use Rattle.model.specs.Checks as rules'
+    damaged pinned/Steps 'use Rattle.types.specs.Head.{cells_of}'
+    damaged pinned/Steps 'use Rattle.model.specs.Log.{Made, gives}'
+    damaged pinned/Statements 'use Rattle.history.specs.Items.{Call, perform}'
+    damaged pinned/Statements 'use Rattle.pinned.specs.Decided.{matched}'
+    damaged pinned/Statements 'size = Rattle.types.specs.Head.cells_of'
+    damaged book_pinned/Statement 'use Rattle.book_rules.specs.Layout.{is_sound}'
+    damaged book_pinned/Statement 'use Rattle.book_rules.specs.Writing as writing'
+    damaged book_pinned/Statement 'use Rattle.setpoint.specs.Codec.{setting_of}'
+    damaged book_pinned/Statement 'use Rattle.model.specs.Arena.{shape_fits}'
+    damaged book_pinned/Statement 'use Rattle.pinned.specs.Decided.{Decides}'
+    damaged book_pinned/Statement 'use Rattle.book_pinned.specs.Plain.{place_is}'
     looks crates $files
     types
 )

@@ -27,7 +27,7 @@ quoting=(
 
 # names_of PAGE..: the names File.name on it
 names_of() {
-    grep -ohE '`[A-Z][A-Za-z]*\.[A-Za-z][A-Za-z0-9-]*`' "$@" | tr -d '`' | sort -u
+    grep -ohE '`[A-Z][A-Za-z]*\.[A-Za-z][A-Za-z0-9_-]*`' "$@" | tr -d '`' | sort -u
 }
 # declared NAME FILE..: whether one of the files declares it
 declared() {

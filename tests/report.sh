@@ -8,8 +8,8 @@ cd "$(dirname "$0")/.."
 
 build_plain
 build_bench
-[ -e target/bin/report ] || {
-    echo "no report at target/bin/report: build it first"
+[ -e crates/report/out/report ] || {
+    echo "no report at crates/report/out/report: build it first"
     exit 1
 }
 room=$(mktemp -d)

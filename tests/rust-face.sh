@@ -3,7 +3,7 @@
 # RAM of ten seeds, each figure checked; misuse that must not compile, each with the error that it must give; what a target that the library
 # is not for, and a folder without the archive, are told; a program with no standard library, no C library and no start-up code below it,
 # also for the bare target x86_64-unknown-none where the compiler has its `core`; all of it under the address sanitizer, where a nightly
-# compiler is at hand. The archive is that of target/staticlib. On a machine that is not x86-64, Debian's cross compilers make the programs
+# compiler is at hand. The archive is that of crates/skid/out. On a machine that is not x86-64, Debian's cross compilers make the programs
 # and an emulator runs them.
 set -euo pipefail
 cd "$(dirname "$0")/.."
@@ -16,7 +16,7 @@ fail() {
     echo "rust-face: $*" >&2
     exit 1
 }
-[ -e target/staticlib/libskid.a ] || fail "no target/staticlib/libskid.a: rt staticlib skid makes it"
+[ -e crates/skid/out/libskid.a ] || fail "no crates/skid/out/libskid.a: rt lib --cpu x86-64 in crates/skid makes it"
 need_cargo
 need_cross
 rustc=rustc gcc=gcc run=()
@@ -48,7 +48,7 @@ grep -qE '^the kernel.s face: [0-9]{5,} figures of ten seeds, all as they should
 # ---- misuse that must not compile
 version=$(sed -n 's/^version = "\(.*\)"$/\1/p' rust/skid/Cargo.toml)
 CARGO_PKG_VERSION=$version "$rustc" --edition 2021 -O --target "$bench_target" --crate-type rlib --crate-name skid \
-    -L native=target/staticlib -l static=skid -o "$out/libskid.rlib" rust/skid/src/lib.rs
+    -L native=crates/skid/out -l static=skid -o "$out/libskid.rlib" rust/skid/src/lib.rs
 
 # compiles CODE: the code inside a function compiles, behind an open arena
 compiles() {
@@ -146,13 +146,13 @@ told 'a target without SSE' 'libskid.a uses the SSE registers' --target "$bench_
 crate_with --target "$bench_target" -C target-feature=-sse --cfg 'feature="sse_is_on"' || { cat "$out/said"; fail "sse_is_on does not let it pass"; }
 [ "$(uname -m)" = x86_64 ] || told 'another target than x86-64' 'libskid.a is x86-64 code'
 SKID_LIB_DIR=$PWD/$out/empty with_cargo check >"$out/said" 2>&1
-grep -qF "no libskid.a in $PWD/$out/empty: \`rt staticlib skid\` makes it" "$out/said" || { cat "$out/said"; fail "a folder without the archive is not named"; }
+grep -qF "no libskid.a in $PWD/$out/empty: \`rt lib --cpu x86-64\` makes it in crates/skid/out" "$out/said" || { cat "$out/said"; fail "a folder without the archive is not named"; }
 echo 'a folder without the archive: told'
 
 # ---- with nothing below it
 # bare TARGET FLAGS..: rust/skid/tests/bare/kernel.rs for this target ends with 0
 bare() {
-    local target=$1 flags=(--edition 2021 -O -C panic=abort --target "$1" -L native=target/staticlib)
+    local target=$1 flags=(--edition 2021 -O -C panic=abort --target "$1" -L native=crates/skid/out)
     shift
     CARGO_PKG_VERSION=$version "$rustc" "${flags[@]}" "$@" --crate-type rlib --crate-name skid -l static=skid -o "$out/libbare_skid.rlib" \
         rust/skid/src/lib.rs

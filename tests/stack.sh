@@ -11,7 +11,7 @@ cd "$(dirname "$0")/.."
 . tests/lib.sh
 # shellcheck source=tests/compilers.sh
 . tests/compilers.sh
-archive=target/staticlib/libskid.a
+archive=crates/skid/out/libskid.a
 page=docs/INTEGRATION.md
 out=target/stack
 begin='<!-- what a call costs: begin -->'
@@ -22,7 +22,7 @@ fail() {
     echo "stack: $*" >&2
     exit 1
 }
-[ -e "$archive" ] || fail "no $archive: rt staticlib skid makes it"
+[ -e "$archive" ] || fail "no $archive: rt lib --cpu x86-64 in crates/skid makes it"
 need_compilers >&2
 size=size objdump=objdump emulate=(qemu-x86_64)
 if [ "$(uname -m)" != x86_64 ]; then

@@ -6,7 +6,7 @@ cd "$(dirname "$0")/.." || exit 1
 page=docs/SWAPS.md
 specs=crates/swaps/specs
 
-names=$(grep -oE '`[A-Z][A-Za-z]*\.[a-z][a-z0-9-]*`' "$page" | tr -d '`' | sort -u)
+names=$(grep -oE '`[A-Z][A-Za-z]*\.[a-z][a-z0-9_-]*`' "$page" | tr -d '`' | sort -u)
 [ -n "$names" ] || { echo "$page: no names"; exit 1; }
 wrong=$(
     while IFS=. read -r file word; do

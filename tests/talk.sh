@@ -292,17 +292,16 @@ echo '// nothing' >"$small/crates/skid/src/lib.rt"
 printf '#!/bin/sh\necho x86_64\n' >"$small/bin/uname"
 cat >"$small/bin/rt" <<'RT'
 #!/bin/sh
-echo "rt $*" >>calls
+echo "rt $* in ${PWD##*/}" >>../../calls
 echo 'a remark of the checker'
-if [ -e broken ]; then
-    echo 'rt: skid NOT PROVED (exit 1, 3 s)'
-    echo 'rt: FAILED: skid'
+echo 'crate skid: modules loaded=1 checked=1'
+if [ -e ../../broken ]; then
+    echo 'logic=not-proved'
     exit 1
 fi
-mkdir -p target/staticlib
-echo archive >target/staticlib/libskid.a
-echo 'rt: skid proved (3 s)'
-echo 'rt: ok, 1 crates proved'
+mkdir -p out
+echo archive >out/libskid.a
+echo 'logic=proved functions=1 target=x86_64-unknown-linux-gnu'
 RT
 cat >"$small/bin/cargo" <<'CARGO'
 #!/bin/sh
@@ -325,15 +324,16 @@ builds() {
 }
 
 builds 'a missing file comes before the proof' 2 0 "$room/missing" "$room/missing"
-builds 'no library' 0 1 '^proved 1 of 1: skid, 3 s$' "$input"
+builds 'no library' 0 1 '^proved 1 of 1: skid, [0-9]* s$' "$input"
+[ "$(cat "$small/calls")" = 'rt lib --cpu x86-64 in skid' ] || complain "play.sh: rt was called otherwise: $(cat "$small/calls")"
 builds 'a library' 0 1 '^show$' "$input"
 touch -d '+1 minute' "$small/crates/skid/src/lib.rt"
-builds 'a newer source' 0 2 '^proved 1 of 1: skid, 3 s$' "$input"
+builds 'a newer source' 0 2 '^proved 1 of 1: skid, [0-9]* s$' "$input"
 touch "$small/broken"
 builds 'a source that is not proved' 2 3 '^what the checker said is in ' "$input"
 log=$(sed -n 's/^what the checker said is in //p' "$room/said")
 grep -q 'a remark of the checker' "$log" || complain "play.sh: the log does not have the checker's remarks"
-rm -f "$log" "$small/bin/rt" "$small/target/staticlib/libskid.a"
+rm -f "$log" "$small/bin/rt" "$small/crates/skid/out/libskid.a"
 if ! PATH=/usr/bin:/bin command -v rt >/dev/null; then
     status=0
     (cd "$small" && PATH=$small/bin:/usr/bin:/bin bash bench/play.sh "$input") >"$room/out" 2>"$room/said" || status=$?

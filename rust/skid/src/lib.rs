@@ -31,8 +31,8 @@
 //!
 //! # Where the library is
 //!
-//! `rt staticlib skid` writes `target/staticlib/libskid.a`. The build looks there, or in the folder that the environment
-//! variable `SKID_LIB_DIR` names. The archive is x86-64 code.
+//! `rt lib --cpu x86-64` in crates/skid writes `crates/skid/out/libskid.a`. The build looks there, or in the folder that
+//! the environment variable `SKID_LIB_DIR` names. The archive is x86-64 code.
 //!
 //! # What a kernel must know
 //!
