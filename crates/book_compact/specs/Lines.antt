@@ -12,8 +12,9 @@ use Rattle.std.proofs.Math.Seq.{sets}
 use Rattle.book_rules.specs.Layout.{lines_of, front_of, place_at, is_kept}
 use Rattle.book_rules.specs.Writing.{count, put_many, kept_of, slid_of, moved_of, if_kept, laid_of, place_bytes, compact_of}
 use Rattle.book_rules.specs.Many.{count_same, count_most, length_many, many_outside}
-use Rattle.book_rules.specs.Sound.{Kept, Fits, is_kept_lem, Alike, line_alike}
-use Rattle.book_rules.specs.Slid.{laid_long, laid_low}
+use Rattle.book_rules.specs.Sound.{Kept, Fits, Alike}
+use Rattle.book_rules.proofs.Sound.{is_kept_lem, line_alike}
+use Rattle.book_rules.proofs.Slid.{laid_long, laid_low}
 use Rattle.book_sound.specs.Scan.{cell_of, Marked}
 use Rattle.book_compact.specs.Slide.{walk_of, Within, marks_within, slide_is, ranks_are}
 

@@ -18,8 +18,9 @@ use Rattle.book_rules.specs.Layout.{five_at, lines_of, front_of, place_at, versi
 use Rattle.book_rules.specs.Stores.{sets_below, sets_above, sets_in}
 use Rattle.book_rules.specs.Writing.{count, kept_of, rank_of, slid_of, erased_of, laid_of}
 use Rattle.book_rules.specs.Many.{one, count_same, count_none, count_most, Beside, one_true, one_false}
-use Rattle.book_rules.specs.Sound.{Kept, Apart, Fits, is_kept_lem, kept_is}
-use Rattle.book_rules.specs.Slid.{rank_few, five_byte, order_is, front_is, laid_long, laid_low, laid_byte, laid_else, erased_body, erased_else}
+use Rattle.book_rules.specs.Sound.{Kept, Apart, Fits}
+use Rattle.book_rules.proofs.Sound.{is_kept_lem, kept_is}
+use Rattle.book_rules.proofs.Slid.{rank_few, five_byte, order_is, front_is, laid_long, laid_low, laid_byte, laid_else, erased_body, erased_else}
 use Rattle.book_sound.specs.Scan.{cell_of, offset_of, Marked}
 
 -- ---- the walk, as a loop makes it

@@ -13,10 +13,12 @@ use borrow.Author.Tests.{lt-ltb, le-ltb}
 use Rattle.book_rules.specs.Layout.{lines_of, front_of, line_at, place_at, version_at, is_kept, line_of, is_sound}
 use Rattle.book_rules.specs.Writing.{count, most, drop_oldest_of, kept_of, end_of, is_crowded, is_full, append_of, put_over_of}
 use Rattle.book_rules.specs.Many.{count_most, most_within}
-use Rattle.book_rules.specs.Sound.{Kept, Apart, Fits, is_kept_lem, is_unkept, sound_is, Alike}
-use Rattle.book_rules.specs.Dropped.{dropped}
-use Rattle.book_rules.specs.Wrote.{is_staying, staying_of, staying_is}
-use Rattle.book_rules.specs.Appended.{line_long}
+use Rattle.book_rules.specs.Sound.{Kept, Apart, Fits, Alike}
+use Rattle.book_rules.proofs.Sound.{is_kept_lem, is_unkept, sound_is}
+use Rattle.book_rules.proofs.Dropped.{dropped}
+use Rattle.book_rules.specs.Wrote.{staying_of}
+use Rattle.book_rules.proofs.Wrote.{is_staying, staying_is}
+use Rattle.book_rules.proofs.Appended.{line_long}
 use Rattle.book_sound.specs.Scan.{cell_of, offset_of, Marked}
 use Rattle.book_compact.specs.Lines.{compacted_of}
 use Rattle.setpoint.specs.Codec.{body_of}

@@ -17,9 +17,10 @@ use Rattle.book_rules.specs.Writing.{drop_oldest_of, kept_of, slid_of, laid_of, 
 use Rattle.book_rules.specs.Stores.{sets_below, sets_above, sets_in}
 use Rattle.book_pinned.specs.Same.{each_of_eight}
 use Rattle.book_rules.specs.Many.{Beside, length_many, many_outside, many_inside}
-use Rattle.book_rules.specs.Sound.{Kept, Apart, Fits, kept_is, is_kept_lem}
-use Rattle.book_rules.specs.Slid.{laid_long, laid_low}
-use Rattle.book_rules.specs.Appended.{shifted_long, body_long}
+use Rattle.book_rules.specs.Sound.{Kept, Apart, Fits}
+use Rattle.book_rules.proofs.Sound.{kept_is, is_kept_lem}
+use Rattle.book_rules.proofs.Slid.{laid_long, laid_low}
+use Rattle.book_rules.proofs.Appended.{shifted_long, body_long}
 use Rattle.book_pinned.specs.Statement.{place_in, version_in_lem, newest, Stays, Goes, InBody, Left}
 use Rattle.book_pinned.specs.Same.{not_oldest}
 use Rattle.book_pinned.specs.Plain.{place_is, kept}

@@ -9,12 +9,12 @@ use Rattle.setpoint.specs.declared.Setpoint.{Setpoint}
 use Rattle.book_rules.specs.declared.BookAnswer.{BookAnswer}
 use Rattle.book_rules.specs.declared.BookAnswer.TheVariants.{Written, Refused}
 use Rattle.book_rules.specs.Layout.{is_sound}
-use Rattle.book_rules.specs.Sound.{sound_is, is_sound_lem}
+use Rattle.book_rules.proofs.Sound.{sound_is, is_sound_lem}
 use Rattle.book_rules.specs.declared.BookRefusal.{BookRefusal}
 use Rattle.book_rules.specs.declared.BookRefusal.TheVariants.{BadShape, BadSlot, StaleBoot, NotHeld, NotFinite, DamagedBook, VersionsSpent, BookFull}
 use Rattle.history.specs.Tests.{differ}
 use Rattle.pinned.specs.Words.{arena, Shape, IsLive}
-use Rattle.pinned.specs.Decided.{shape_there, shape_back, owned, owning}
+use Rattle.pinned.proofs.Decided.{shape_there, shape_back, owned, owning}
 use Rattle.book_pinned.specs.Statement.{slots, newest, IsNotFinite, Undamaged, staying, Puts, WritesOver, Writes, BookBuild, MeetsBook}
 use Rattle.book_pinned.specs.Plain.{undamaged_there, undamaged_back}
 

@@ -14,16 +14,17 @@ use Rattle.book_rules.specs.Layout.{slots_of, front_of, place_at, newest_at, set
 use Rattle.book_rules.specs.Writing.{drop_oldest_of, kept_of, is_full, put_of}
 use Rattle.book_rules.specs.Rules.{first_fault, judge_book, is_bad_book, is_bad_slot, is_holder, is_gone, last_version, book_rules, claim_rules, over_rules, open_rules, kept_rules}
 use Rattle.book_rules.specs.Calls.{prepare_book_of, written_of, write_setpoint_of, read_as, line_read, read_version_of, read_setpoint_of}
-use Rattle.book_rules.specs.Sound.{Sound, sound_is}
-use Rattle.book_rules.specs.Dropped.{dropped}
-use Rattle.book_rules.specs.Fine.{head_alone}
+use Rattle.book_rules.specs.Sound.{Sound}
+use Rattle.book_rules.proofs.Sound.{sound_is}
+use Rattle.book_rules.proofs.Dropped.{dropped}
+use Rattle.book_rules.proofs.Fine.{head_alone}
 use Rattle.book_rules.specs.declared.BookAnswer.{BookAnswer}
 use Rattle.book_rules.specs.declared.BookAnswer.TheVariants.{Done, Setting, Refused}
 use Rattle.book_rules.specs.declared.BookCheck.{BookCheck}
 use Rattle.book_rules.specs.declared.BookRefusal.TheVariants.{BadSlot, StaleBoot, NotHeld, NotFinite, DamagedBook, VersionsSpent, BookFull, NeverWritten}
 use Rattle.history.specs.Tests.{if_cases}
 use Rattle.pinned.specs.Words.{Is, If◌Then◌Else◌, With, arena, IsLive}
-use Rattle.pinned.specs.Decided.{Decides, shape_decides, or_decides, ltb_decides, owned, owning, leb_decides, ne_decides, not_decides}
+use Rattle.pinned.proofs.Decided.{Decides, shape_decides, or_decides, ltb_decides, owned, owning, leb_decides, ne_decides, not_decides}
 use Rattle.book_pinned.specs.Statement.{slots, place_in, newest, IsNotFinite, BodyAt, Undamaged, staying, BookBuild, BadHead, BadBook, NotHolder, PreparesBook, Puts, WritesOver, Writes, NotKept, ReadsVersion, MeetsBook}
 use Rattle.book_pinned.specs.Plain.{place_is, version_is, body_is, finite_decides, undamaged_there, undamaged_back, damage_decides, staying_is}
 use Rattle.book_pinned.specs.Puts.{puts_is}

@@ -16,10 +16,11 @@ use Rattle.setpoint.specs.declared.Decoded.{Decoded}
 use Rattle.setpoint.specs.declared.Decoded.TheVariants as decoded
 use Rattle.book_rules.specs.Layout.{five_at, place_at, length_at, version_at, is_kept, setting_at, is_setting, is_sound}
 use Rattle.book_rules.specs.Writing.{count, drop_oldest_of, kept_of, rank_of, slid_of, moved_of}
-use Rattle.book_rules.specs.Sound.{Kept, Fits, Sound, kept_is, unkept_is, sound_is, is_sound_lem}
-use Rattle.book_rules.specs.Dropped.{Dropped, dropped}
+use Rattle.book_rules.specs.Sound.{Kept, Fits, Sound}
+use Rattle.book_rules.proofs.Sound.{kept_is, unkept_is, sound_is, is_sound_lem}
+use Rattle.book_rules.proofs.Dropped.{Dropped, dropped}
 use Rattle.history.specs.Tests.{differ as apart_from}
-use Rattle.pinned.specs.Decided.{Decides, not_decides}
+use Rattle.pinned.proofs.Decided.{Decides, not_decides}
 use Rattle.book_pinned.specs.Statement.{place_in, length_in, version_in_lem, IsNotFinite, Means, BodyAt, Undamaged, Stays, differ, less, stays, sum, staying, staying_before, slid, moved}
 
 -- ---- lines

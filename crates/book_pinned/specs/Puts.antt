@@ -13,9 +13,10 @@ use Rattle.book_rules.specs.Layout.{lines_of, front_of, place_at, version_at, is
 use Rattle.book_rules.specs.Writing.{most, drop_oldest_of, kept_of, end_of, is_crowded, is_full, slid_of, moved_of, erased_of, place_bytes, compact_of, append_of, put_over_of, put_of}
 use Rattle.book_rules.specs.Calls.{written_of}
 use Rattle.book_rules.specs.Many.{Beside, most_start, most_each}
-use Rattle.book_rules.specs.Sound.{Kept, Apart, Fits, kept_is, is_kept_lem}
-use Rattle.book_rules.specs.Dropped.{Dropped, dropped}
-use Rattle.book_rules.specs.Slid.{front_is, ends_is, laid_byte, laid_else, erased_body, erased_else}
+use Rattle.book_rules.specs.Sound.{Kept, Apart, Fits}
+use Rattle.book_rules.proofs.Sound.{kept_is, is_kept_lem}
+use Rattle.book_rules.proofs.Dropped.{Dropped, dropped}
+use Rattle.book_rules.proofs.Slid.{front_is, ends_is, laid_byte, laid_else, erased_body, erased_else}
 use Rattle.book_rules.specs.declared.BookAnswer.TheVariants.{Written}
 use Rattle.history.specs.Tests.{if_cases}
 use Rattle.book_pinned.specs.Statement.{place_in, version_in_lem, newest, Stays, staying, slid, moved, Crowded, BehindAll, InBody, Left, SamePlaces, NewPlaces, Puts}

@@ -5,7 +5,7 @@ use Rattle.std.proofs.Math.Decide.{ℕ_discrete, dec_lt}
 use Rattle.types.specs.declared.Head.{Head}
 use Rattle.types.specs.declared.Lease.{Lease}
 use Rattle.setpoint.specs.declared.Setpoint.{Setpoint}
-use Rattle.book_rules.specs.Appended.{Came, is_new, is_own, is_other, came}
+use Rattle.book_rules.proofs.Appended.{Came, is_new, is_own, is_other, came}
 use Rattle.pinned.specs.Words.{If◌Then◌Else◌}
 use Rattle.pinned.specs.Same.{Same, is_same, if_same, with_same}
 use Rattle.book_pinned.specs.Statement.{byte, slots, place_in, version_in_lem, newest, Means, BodyAt, Stays, BehindAll, Goes, InBody, NoBodyNow, Left, SamePlaces, NewPlaces, BookBuild, BadBook, PreparesBook, Puts, WritesOver, Writes, ReadsVersion, MeetsBook}

@@ -7,7 +7,7 @@ use Rattle.types.specs.declared.Head.{Head}
 use Rattle.types.specs.declared.Lease.{Lease}
 use Rattle.setpoint.specs.declared.Setpoint.{Setpoint}
 use Rattle.book_rules.specs.Layout.{is_sound}
-use Rattle.book_rules.specs.Sound.{sound_is, is_sound_lem}
+use Rattle.book_rules.proofs.Sound.{sound_is, is_sound_lem}
 use Rattle.book_rules.specs.declared.BookAnswer.{BookAnswer}
 use Rattle.book_pinned.specs.Statement.{Undamaged, BookBuild, MeetsBook}
 use Rattle.book_pinned.specs.Same.{SameBook}

@@ -6,10 +6,5 @@ pub mod Cases
 pub mod Stores
 pub mod Many
 pub mod Sound
-pub mod Dropped
-pub mod Slid
-pub mod Appended
 pub mod Wrote
-pub mod Fine
 pub mod Outcomes
-pub mod Reads

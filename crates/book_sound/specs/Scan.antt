@@ -14,7 +14,8 @@ use Rattle.choice.specs.Pick.{both, or_true, same_truth}
 use Rattle.laws.specs.Lists.{zeros}
 use Rattle.book_rules.specs.Layout.{all, lines_of, front_of, place_at, length_at, version_at, is_kept, setting_at, is_setting, is_falling, is_fitting, is_apart, is_sound}
 use Rattle.book_rules.specs.Many.{all_each, each_all}
-use Rattle.book_rules.specs.Sound.{Kept, Apart, is_kept_lem, is_unkept, kept_fits, apart_is, is_apart_lem}
+use Rattle.book_rules.specs.Sound.{Kept, Apart}
+use Rattle.book_rules.proofs.Sound.{is_kept_lem, is_unkept, kept_fits, apart_is, is_apart_lem}
 
 -- ---- the scan, as a loop makes it
 

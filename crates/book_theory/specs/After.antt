@@ -8,20 +8,22 @@ use Rattle.laws.specs.Shape.{shaped}
 use Rattle.model.specs.Arena.{cells_of, hold_in, head_fits}
 use Rattle.types.specs.declared.Head.{Head}
 use Rattle.types.specs.declared.Lease.{Lease}
-use Rattle.setpoint.specs.RoundTrip.{Held}
+use Rattle.setpoint.proofs.RoundTrip.{Held}
 use Rattle.setpoint.specs.declared.Setpoint.{Setpoint}
 use Rattle.book_rules.specs.Layout.{slots_of, lines_of, front_of, place_at, length_at, newest_at, is_kept}
 use Rattle.book_rules.specs.Writing.{count, drop_oldest_of, kept_of, end_of, is_crowded, is_full, slid_of, moved_of, put_over_of, put_of}
 use Rattle.book_rules.specs.Calls.{write_setpoint_of, read_version_of}
 use Rattle.book_rules.specs.Many.{count_less, most_within}
-use Rattle.book_rules.specs.Sound.{Kept, Fits, Sound, sound_is, is_sound_lem, is_kept_lem}
-use Rattle.book_rules.specs.Dropped.{dropped}
-use Rattle.book_rules.specs.Slid.{ends_is}
-use Rattle.book_rules.specs.Appended.{goes_of}
-use Rattle.book_rules.specs.Wrote.{is_staying, staying_of, staying_is, Wrote, put_wrote, still_moved}
-use Rattle.book_rules.specs.Fine.{shape_head}
-use Rattle.book_rules.specs.Outcomes.{Claim, Outcome, done, full, refused, writing_is}
-use Rattle.book_rules.specs.Reads.{other_reads, own_reads, new_reads, dropped_reads}
+use Rattle.book_rules.specs.Sound.{Kept, Fits, Sound}
+use Rattle.book_rules.proofs.Sound.{sound_is, is_sound_lem, is_kept_lem}
+use Rattle.book_rules.proofs.Dropped.{dropped}
+use Rattle.book_rules.proofs.Slid.{ends_is}
+use Rattle.book_rules.proofs.Appended.{goes_of}
+use Rattle.book_rules.specs.Wrote.{staying_of}
+use Rattle.book_rules.proofs.Wrote.{is_staying, staying_is, Wrote, put_wrote, still_moved}
+use Rattle.book_rules.proofs.Fine.{shape_head}
+use Rattle.book_rules.proofs.Outcomes.{Claim, Outcome, done, full, refused, writing_is}
+use Rattle.book_rules.proofs.Reads.{other_reads, own_reads, new_reads, dropped_reads}
 use Rattle.book_rules.specs.declared.BookAnswer.{BookAnswer}
 use Rattle.book_rules.specs.declared.BookAnswer.TheVariants.{Done, Written, Setting, Refused}
 use Rattle.book_rules.specs.declared.BookRefusal.{BookRefusal}

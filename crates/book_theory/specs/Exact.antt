@@ -6,17 +6,18 @@ use Rattle.choice.specs.Pick.{false_not}
 use Rattle.model.specs.Arena.{head_fits}
 use Rattle.types.specs.declared.Head.{Head}
 use Rattle.setpoint.specs.Codec.{has_body, body_of, join_of, decode_of}
-use Rattle.setpoint.specs.RoundTrip.{Held, Means, setting_means, low_join, join_small, read_back}
+use Rattle.setpoint.proofs.RoundTrip.{Held, Means, setting_means, low_join, join_small, read_back}
 use Rattle.setpoint.specs.declared.Decoded.{Decoded}
 use Rattle.setpoint.specs.declared.Decoded.TheVariants as decoded
 use Rattle.setpoint.specs.declared.Setpoint.{Setpoint}
 use Rattle.book_rules.specs.Layout.{slots_of, five_at, place_at, newest_at, setting_at, is_sound}
 use Rattle.book_rules.specs.Rules.{is_bad_slot}
 use Rattle.book_rules.specs.Calls.{read_as, line_read, read_version_of}
-use Rattle.book_rules.specs.Fine.{SlotFine, slot_fine}
-use Rattle.book_rules.specs.Sound.{Sound, sound_is, is_sound_lem}
-use Rattle.book_rules.specs.Outcomes.{Keeps, kept_or, read_kept, read_lost, read_damaged}
-use Rattle.book_rules.specs.Reads.{kept_tells}
+use Rattle.book_rules.proofs.Fine.{SlotFine, slot_fine}
+use Rattle.book_rules.specs.Sound.{Sound}
+use Rattle.book_rules.proofs.Sound.{sound_is, is_sound_lem}
+use Rattle.book_rules.proofs.Outcomes.{Keeps, kept_or, read_kept, read_lost, read_damaged}
+use Rattle.book_rules.proofs.Reads.{kept_tells}
 use Rattle.book_rules.specs.declared.BookAnswer.{BookAnswer}
 use Rattle.book_rules.specs.declared.BookAnswer.TheVariants.{Setting, Refused}
 use Rattle.book_rules.specs.declared.BookRefusal.TheVariants.{DamagedBook, NeverWritten}

@@ -9,13 +9,13 @@ use Rattle.types.specs.declared.Head.{Head}
 use Rattle.choice.specs.Pick.{both}
 use Rattle.laws.specs.Shape.{Shaped, shaped}
 use Rattle.laws.specs.Prepared.{Outcome, Came, was_done, was_refused, came}
-use Rattle.book_rules.specs.Fine.{head_alone, shape_head}
+use Rattle.book_rules.proofs.Fine.{head_alone, shape_head}
 use Rattle.history.specs.World.{World, world_of, Legal, after_event, now, Lawful}
 use Rattle.history.specs.Items.{Item, call, foreign_step, preparation, preparation_over, salvage, salvage_over, Course, perform, foreign, prepared_by, preparing, salvaged_by, salvaging, next_item}
 use Rattle.history.specs.Events.{fits}
 use Rattle.history.specs.Salvages.{Came as SalvagesCame, bad, full, done, came as salvage_came}
-use Rattle.history.specs.Courses.{foreign_kept}
-use Rattle.history.specs.Theorems.{lawful_always}
+use Rattle.history.proofs.Courses.{foreign_kept}
+use Rattle.history.proofs.Theorems.{lawful_always}
 
 abbrev pub Fits : Head → Type 0
 Fits h = head_fits h ≡ true

@@ -1,10 +1,7 @@
 pub mod Items
 pub mod Statements
-pub mod Theorems
 pub mod Promises
 pub mod Heads
 pub mod After
-pub mod Runs
 pub mod Exact
 pub mod Parted
-pub mod Examples

@@ -17,7 +17,7 @@ use Rattle.book_rules.specs.Rules.{first_fault, judge_book, bad_table, bad_slot,
 use Rattle.book_rules.specs.declared.BookCheck.TheVariants.{Fine, Fault}
 use Rattle.book_rules.specs.declared.BookRefusal.{BookRefusal}
 use Rattle.book_rules.specs.declared.BookRefusal.TheVariants.{BadShape, BadSlot, StaleBoot, BookFull}
-use Rattle.book_rules.specs.Outcomes.{Outcome, done, full, refused, writing_is}
+use Rattle.book_rules.proofs.Outcomes.{Outcome, done, full, refused, writing_is}
 use Rattle.book_rules.specs.declared.BookAnswer.{BookAnswer}
 use Rattle.book_rules.specs.declared.BookAnswer.TheVariants.{Written, Refused}
 use Rattle.history.specs.World.{World, Live, now, Releases, Unreleased}
@@ -25,9 +25,9 @@ use Rattle.history.specs.Items.{Item, call, foreign_step, preparation, preparati
 use Rattle.history.specs.Statements.{Begins}
 use Rattle.history.specs.Tests.{holds_equal}
 use Rattle.history.specs.Events.{lives}
-use Rattle.history.specs.Logs.{boot_now}
-use Rattle.history.specs.Writers.{looked}
-use Rattle.history.specs.Courses.{Stretch, run_stretch, ledger, begun, events_append, not_prepared, not_salvaged}
+use Rattle.history.proofs.Logs.{boot_now}
+use Rattle.history.proofs.Writers.{looked}
+use Rattle.history.proofs.Courses.{Stretch, run_stretch, ledger, begun, events_append, not_prepared, not_salvaged}
 use Rattle.book_theory.specs.Items.{BookItem, arena_item, prepare_book, write_setpoint, read_setpoint, read_version, Shift, shift_of, world_of_lem, next_shift, run_shift}
 use Rattle.book_theory.specs.Statements.{WrittenByHolder, UnownedWritesNothing, StaleWritesNothing, OneWriter, GoesOn, OneStretch, ReleasedBetween, WritersParted}
 

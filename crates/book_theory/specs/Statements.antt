@@ -8,15 +8,15 @@ use Rattle.types.specs.declared.Hold.{Hold}
 use Rattle.types.specs.declared.Lease.{Lease}
 use Rattle.laws.specs.Shape.{Shaped}
 use Rattle.setpoint.specs.Codec.{has_body, body_of}
-use Rattle.setpoint.specs.RoundTrip.{Held}
+use Rattle.setpoint.proofs.RoundTrip.{Held}
 use Rattle.setpoint.specs.declared.Setpoint.{Setpoint}
 use Rattle.book_rules.specs.Layout.{slots_of, lines_of, five_at, place_at, length_at, newest_at}
 use Rattle.book_rules.specs.Writing.{count, drop_oldest_of, is_crowded}
 use Rattle.book_rules.specs.Rules.{first_fault, bad_table, bad_slot, is_bad_slot, last_version}
 use Rattle.book_rules.specs.Sound.{Kept, Apart, Sound, Free}
-use Rattle.book_rules.specs.Appended.{goes_of}
-use Rattle.book_rules.specs.Wrote.{is_staying}
-use Rattle.book_rules.specs.Outcomes.{Keeps}
+use Rattle.book_rules.proofs.Appended.{goes_of}
+use Rattle.book_rules.proofs.Wrote.{is_staying}
+use Rattle.book_rules.proofs.Outcomes.{Keeps}
 use Rattle.book_rules.specs.declared.BookAnswer.{BookAnswer}
 use Rattle.book_rules.specs.declared.BookAnswer.TheVariants.{Done, Written, Setting, Refused}
 use Rattle.book_rules.specs.declared.BookCheck.TheVariants.{Fine}

@@ -1,4 +1,1 @@
 pub mod Statements
-pub mod Over
-pub mod Theorems
-pub mod Examples

@@ -1,12 +1,5 @@
 pub mod Statements
-pub mod Theorems
-pub mod Examples
 pub mod Orders
 pub mod Wholes
-pub mod Due
-pub mod Kept
-pub mod Reorders
-pub mod First
 pub mod Counters
 pub mod Wraps
-pub mod Once

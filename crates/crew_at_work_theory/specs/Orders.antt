@@ -15,7 +15,7 @@ use Rattle.types.specs.declared.Head.{Head}
 use Rattle.crew_theory.specs.Statements.{In, filling, deeds_in, Turn, idled, grabbed, summed, gave}
 use Rattle.crew_theory.specs.Lists.{Fits}
 use Rattle.crew_theory.specs.Turns.{same, turn_is}
-use Rattle.crew_theory.specs.Whole.{Shown, in_made, turn_shown, Moves, none_made, one_made, turn_moves}
+use Rattle.crew_theory.proofs.Whole.{Shown, in_made, turn_shown, Moves, none_made, one_made, turn_moves}
 use Rattle.crew_at_work_theory.specs.Statements.{times, Before}
 
 -- ---- lists of members

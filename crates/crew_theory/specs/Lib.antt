@@ -1,16 +1,6 @@
 pub mod Statements
-pub mod Theorems
 pub mod Examples
 pub mod Sum
 pub mod Lists
 pub mod Turns
 pub mod AsBefore
-pub mod Steady
-pub mod Rounds
-pub mod Seen
-pub mod Ended
-pub mod Deeds
-pub mod Told
-pub mod Whole
-pub mod Alone
-pub mod Tightness

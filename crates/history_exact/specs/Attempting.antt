@@ -26,10 +26,10 @@ use Rattle.history.specs.World.{World}
 use Rattle.history.specs.Items.{Says, says, perform, acquire_bucket, environment, transactional}
 use Rattle.history.specs.Statements.{world_in, answer_in_lem}
 use Rattle.history.specs.Tests.{differ, if_cases, In}
-use Rattle.history.specs.Logs.{nothing}
+use Rattle.history.proofs.Logs.{nothing}
 use Rattle.history.specs.Judged.{past_checks, made_so}
-use Rattle.history.specs.Steps.{With, world_at, of_run, of_tried}
-use Rattle.history.specs.Calls.{call_kept}
+use Rattle.history.proofs.Steps.{With, world_at, of_run, of_tried}
+use Rattle.history.proofs.Calls.{call_kept}
 use Rattle.history_exact.specs.Statements.{Passes}
 use Rattle.history_exact.specs.Script.{environment_has, transactional_has, place_in}
 use Rattle.history_exact.specs.Attempts.{Attempts, Pause, all_busy, yield, ◌and_then◌, one_busy, spin, the_last, also_yields, only_spins, BucketAttempts}

@@ -12,7 +12,7 @@ use Rattle.laws.specs.Words.{length_set_cell, length_set_waiters, bit_set, bit_s
 use Rattle.history.specs.World.{World, now, after_event}
 use Rattle.history.specs.Items.{Build, Call, perform}
 use Rattle.history.specs.Statements.{world_in}
-use Rattle.history.specs.Theorems.{lawful_always}
+use Rattle.history.proofs.Theorems.{lawful_always}
 
 pub data Left (before after : ℕ) : Type 0 where
   as_it_was : after ≡ before → Left before after

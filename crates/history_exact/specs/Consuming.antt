@@ -6,7 +6,7 @@ use Rattle.model.specs.Log.{Event, boundary_run}
 use Rattle.model.specs.Foreign.{steps_in}
 use Rattle.types.specs.declared.Hold.{Hold}
 use Rattle.history.specs.World.{World, now, Lawful, Legal}
-use Rattle.history.specs.Logs.{now_append, lawful_split}
+use Rattle.history.proofs.Logs.{now_append, lawful_split}
 use Rattle.history_exact.specs.Statements.{Stepping, dropped, ends, looks, performed}
 use Rattle.history_exact.specs.Script.{Boundary, at_end_lem, at_five, one_step, attempts_one, yields_once, spins, Consumed, at_rest, counts, takes, gives_up, boundary}
 

@@ -16,10 +16,10 @@ use Rattle.types.specs.declared.Outcome.TheVariants as outcome
 use Rattle.laws.specs.Lists.{holds_few, words_back}
 use Rattle.history.specs.World.{World}
 use Rattle.history.specs.Items.{Call, perform}
-use Rattle.history.specs.Theorems.{lawful_always}
+use Rattle.history.proofs.Theorems.{lawful_always}
 use Rattle.history.specs.Judged.{judged_at, sorted_locks, past_checks, made_so}
-use Rattle.history.specs.Shared.{steps_hand_back, back_once}
-use Rattle.history.specs.Calls.{words_leases}
+use Rattle.history.proofs.Shared.{steps_hand_back, back_once}
+use Rattle.history.proofs.Calls.{words_leases}
 use Rattle.history_exact.specs.Script.{Scripted, environment_has, try_lock_has, transactional_has, acquire_bucket_has, release_all_has, acquire_locks_has, acquire_sorted_has, attempts_one, at_rest, counts, handed, Consumes, ScriptConsumed}
 use Rattle.history_exact.specs.Consuming.{lawfully}
 use Rattle.history_exact.specs.ConsumingSteps.{held_after, granted_after, boundary_consumed, lock_consumed, attempt_consumed, retry_consumed, back_consumed, locks_consumed, Any}

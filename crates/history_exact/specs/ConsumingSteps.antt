@@ -37,7 +37,7 @@ use Rattle.choice.specs.Pick.{if_both}
 use Rattle.laws.specs.Lists.{words_back}
 use Rattle.history.specs.World.{World}
 use Rattle.history.specs.Tests.{differ, if_cases}
-use Rattle.history.specs.Steps.{With, world_at, of_flow, of_locked, of_run, of_tried, of_took}
+use Rattle.history.proofs.Steps.{With, world_at, of_flow, of_locked, of_run, of_tried, of_took}
 use Rattle.history_exact.specs.Script.{Boundary, at_end_lem, at_five, one_step, attempts_one, yields_once, spins, Consumed, at_rest, counts, takes, gives_up, boundary}
 use Rattle.history_exact.specs.ForeignSteps.{step_is}
 use Rattle.history_exact.specs.Consuming.{follow}

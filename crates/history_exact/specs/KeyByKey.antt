@@ -34,11 +34,11 @@ use Rattle.history.specs.Items.{Says, says, perform, acquire_bucket, acquire_loc
 use Rattle.history.specs.Statements.{answer_in_lem, world_in}
 use Rattle.history.specs.Tests.{In, in_left, in_right, in_take, in_index}
 use Rattle.history.specs.Events.{Fit, lives}
-use Rattle.history.specs.Logs.{Kept, nothing, event, kept_live, kept_next, weaken}
+use Rattle.history.proofs.Logs.{Kept, nothing, event, kept_live, kept_next, weaken}
 use Rattle.history.specs.Judged.{clear_front, clear_back, made_so}
 use Rattle.history.specs.HeldLists.{clear_live}
-use Rattle.history.specs.Steps.{With, world_at, of_run, of_tried, Won, won, none_yet_lem, no_more, boundary_kept, retry_kept}
-use Rattle.history.specs.Many.{Held, of_locks, one_more}
+use Rattle.history.proofs.Steps.{With, world_at, of_run, of_tried, Won, won, none_yet_lem, no_more, boundary_kept, retry_kept}
+use Rattle.history.proofs.Many.{Held, of_locks, one_more}
 use Rattle.history_exact.specs.Statements.{Passes}
 use Rattle.history_exact.specs.Script.{acquire_bucket_has, environment_has, place_in}
 use Rattle.history_exact.specs.Attempts.{added_up, ◌and_then◌, locking, dropping, between, GivesBack, all_back, one_back, refused_at_lem, KeyByKey, all_locked, one_locked, one_refused, LocksAsCalls, key_at}

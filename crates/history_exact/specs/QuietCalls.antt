@@ -26,7 +26,7 @@ use Rattle.history.specs.Judged.{made_so}
 use Rattle.history.specs.World.{World, world_of, Healthy}
 use Rattle.history.specs.Items.{Says, says, perform, cell_of, try_lock_lem, transactional, acquire_bucket}
 use Rattle.history.specs.Tests.{if_cases}
-use Rattle.history.specs.Steps.{With}
+use Rattle.history.proofs.Steps.{With}
 use Rattle.history_exact.specs.Statements.{PerCell, sick_cell, sound_cell, Ready, AcquireBucketExactly, AcquireBucketQuiet, ByKey, Names, Quietly, TransactionalQuiet, TryLockExactly, TryLockQuiet, bad_header_lem, LocksExactly, at_waited, busy_after, failed_after, is_poisoned_lem, at_held, bad_bucket, at_damaged, names, at_spent, at_free}
 use Rattle.history_exact.specs.Quiet.{QuietLock, was_waited, was_held, was_damaged, was_spent, was_free, was_sick, lock_quiet, yields_in, yields_are, busy_retry}
 

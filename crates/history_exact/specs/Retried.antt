@@ -44,7 +44,7 @@ use Rattle.history.specs.Judged.{made_so}
 use Rattle.history.specs.World.{World}
 use Rattle.history.specs.Items.{Says, perform, acquire_locks, acquire_bucket}
 use Rattle.history.specs.Tests.{differ, if_cases}
-use Rattle.history.specs.Steps.{With}
+use Rattle.history.proofs.Steps.{With}
 use Rattle.history_exact.specs.Attempts.{BucketRetries, Failed, FailedAt, KeysRetried, LocksRetry, Retries, total_64, Some4096, a_later, this_key, spins_in}
 
 -- ---- no spin in a lock

@@ -15,8 +15,8 @@ use Rattle.types.specs.declared.Hold.{Hold}
 use Rattle.laws.specs.Crew.{total_append}
 use Rattle.history.specs.World.{World, now, Legal}
 use Rattle.history.specs.Items.{Call, script_of_lem, place_of, perform, Clear, rules}
-use Rattle.history.specs.Logs.{now_append}
-use Rattle.history.specs.Rollback.{Every, end, also, every_append, every_map, every_at}
+use Rattle.history.proofs.Logs.{now_append}
+use Rattle.history.proofs.Rollback.{Every, end, also, every_append, every_map, every_at}
 use Rattle.history_exact.specs.Statements.{Asks, dropped, ends, looks, performed, release_it, set_health, set_waiters_lem, take_a_cell, Stepping}
 use Rattle.history_exact.specs.Script.{Scripted, environment_has, try_lock_has, transactional_has, acquire_bucket_has, release_all_has, acquire_locks_has, acquire_sorted_has, place_in, Boundary, at_end_lem, at_five, one_step, attempts_one, yields_once, spins, Consumed, at_rest, counts, takes, gives_up, boundary, PlaceGoes, Turn, EachHasItsTurn, Points, ByScriptOnly, Tally, DroppedAre}
 use Rattle.history_exact.specs.Passing.{in_script}

@@ -8,7 +8,6 @@ pub mod Lock
 pub mod Checks
 pub mod Calls
 pub mod Crew
-pub mod Order
 pub mod Cases
 pub mod Salvage
 pub mod Sorted

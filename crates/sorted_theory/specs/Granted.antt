@@ -17,10 +17,10 @@ use Rattle.history.specs.World.{World, number_of_lem, takes}
 use Rattle.history.specs.Items.{Says, acquire_sorted, any_order, key_cell, perform}
 use Rattle.history.specs.Statements.{buffer_in, HandsOver}
 use Rattle.history.specs.Judged.{sorted_locks}
-use Rattle.history.specs.Calls.{call_kept}
-use Rattle.history.specs.Handed.{TakenIn}
-use Rattle.history.specs.HandedCalls.{call_came, locks_serials}
-use Rattle.history.specs.Shared.{HandedBack, asked_cells, sorted_cells, chosen_keys, sorted_rises, sorted_place, sorted_place_at, rising_earlier, all_inner, in_place, steps_hand_back, back_own, buffers_name}
+use Rattle.history.proofs.Calls.{call_kept}
+use Rattle.history.proofs.Handed.{TakenIn}
+use Rattle.history.proofs.HandedCalls.{call_came, locks_serials}
+use Rattle.history.proofs.Shared.{HandedBack, asked_cells, sorted_cells, chosen_keys, sorted_rises, sorted_place, sorted_place_at, rising_earlier, all_inner, in_place, steps_hand_back, back_own, buffers_name}
 use Rattle.sorted_theory.specs.Statements.{Shares, SerialsByCell, ApartByCell, TakenRising, EachKeyLive}
 use Rattle.sorted_theory.specs.Runs.{Goes, refused_whole_lem, refused_key, locks, goes}
 

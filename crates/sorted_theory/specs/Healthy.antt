@@ -13,9 +13,9 @@ use Rattle.history.specs.World.{World, Healthy, now}
 use Rattle.history.specs.Items.{acquire_locks, acquire_sorted, in_order, key_cell, perform}
 use Rattle.history.specs.Statements.{answer_in_lem, buffer_in, world_in}
 use Rattle.history.specs.Answers.{GrantPoint}
-use Rattle.history.specs.Calls.{words_leases}
-use Rattle.history.specs.Healthy.{locks_grant_healthy}
-use Rattle.history.specs.Shared.{asked_cells, sorted_cells, chosen_keys, sorted_rises, rising_at, sorted_place, sorted_place_at, first_place, first_place_at, chosen_count, chosen_cell, handed_back_lem, all_inner, buffers_name}
+use Rattle.history.proofs.Calls.{words_leases}
+use Rattle.history.proofs.Healthy.{locks_grant_healthy}
+use Rattle.history.proofs.Shared.{asked_cells, sorted_cells, chosen_keys, sorted_rises, rising_at, sorted_place, sorted_place_at, first_place, first_place_at, chosen_count, chosen_cell, handed_back_lem, all_inner, buffers_name}
 use Rattle.laws.specs.Lists.{holds_few, words_back}
 use Rattle.sorted_theory.specs.Statements.{SortedHealthy}
 use Rattle.sorted_theory.specs.Runs.{goes, granted_beyond, as_multilock}

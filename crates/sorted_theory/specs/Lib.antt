@@ -1,7 +1,5 @@
 pub mod Statements
-pub mod Theorems
 pub mod Callers
-pub mod Examples
 pub mod Keys
 pub mod Runs
 pub mod Granted

@@ -14,7 +14,7 @@ use Rattle.types.specs.declared.Hold.{Hold}
 use Rattle.laws.specs.Lists.{words_back}
 use Rattle.history.specs.World.{World, now}
 use Rattle.history.specs.Items.{Says, says, acquire_locks, acquire_sorted, key_cell, perform}
-use Rattle.history.specs.Shared.{asked_cells, sorted_cells, chosen_keys, sorted_rises, rising_place, first_place, first_place_at, chosen_count, chosen_cell, chosen_binding, chosen_bucket}
+use Rattle.history.proofs.Shared.{asked_cells, sorted_cells, chosen_keys, sorted_rises, rising_place, first_place, first_place_at, chosen_count, chosen_cell, chosen_binding, chosen_bucket}
 use Rattle.history_exact.specs.Statements.{IsFree, Unwaited, Names, leases_from, takes_of}
 use Rattle.history_exact.specs.Theorems.{locks_quiet}
 use Rattle.sorted_theory.specs.Statements.{sorted_cell, SortedQuiet}

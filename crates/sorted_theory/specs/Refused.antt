@@ -33,8 +33,8 @@ use Rattle.history.specs.World.{World}
 use Rattle.history.specs.Items.{Call, Says, unchanged_at, acquire_locks, acquire_sorted, perform, Clear, rules}
 use Rattle.history.specs.Statements.{answer_in_lem, RolledBack}
 use Rattle.history.specs.Judged.{clear, judged_at, seen_as, sorted_locks, as_asked, made_so}
-use Rattle.history.specs.Rollback.{locks_roll_back}
-use Rattle.history.specs.Shared.{asked_cells, sorted_cells, chosen_keys, asked_at, first_place, first_place_at, chosen_binding, chosen_bucket, chosen_count}
+use Rattle.history.proofs.Rollback.{locks_roll_back}
+use Rattle.history.proofs.Shared.{asked_cells, sorted_cells, chosen_keys, asked_at, first_place, first_place_at, chosen_binding, chosen_bucket, chosen_count}
 use Rattle.sorted_theory.specs.Statements.{TestsKey, KeyInside, FirstBad, KeysFirst, ChecksAsTyped, BeyondChecks, RefusedLater, LaterPosition}
 use Rattle.sorted_theory.specs.Keys.{keys_inside, first_found, bad_tests, none_before}
 use Rattle.sorted_theory.specs.Runs.{Goes, refused_whole_lem, refused_key, locks, goes, as_multilock}

@@ -29,8 +29,8 @@ use Rattle.history.specs.Items.{Says, acquire_sorted, release_all_lem, any_order
 use Rattle.history.specs.Statements.{answer_in_lem, buffer_in, leaves}
 use Rattle.history.specs.Tests.{differ, In, in_take, in_index}
 use Rattle.history.specs.Judged.{clear_back, sorted_locks, made_so}
-use Rattle.history.specs.Calls.{call_kept, words_leases}
-use Rattle.history.specs.Shared.{HandedBack, sorted_cells, sorted_few, sorted_rises, rising_at, first_place, first_place_at, sorted_place_of, back_once, buffers_name}
+use Rattle.history.proofs.Calls.{call_kept, words_leases}
+use Rattle.history.proofs.Shared.{HandedBack, sorted_cells, sorted_few, sorted_rises, rising_at, first_place, first_place_at, sorted_place_of, back_once, buffers_name}
 use Rattle.history_exact.specs.Passing.{shape_on, health_on_lem, same_boot}
 use Rattle.sorted_theory.specs.Statements.{Doubled, Fourteen, OnceDone}
 use Rattle.sorted_theory.specs.Runs.{goes, granted_beyond}

@@ -28,7 +28,7 @@ use Rattle.types.specs.declared.Run.{Run}
 use Rattle.history.specs.World.{World}
 use Rattle.history.specs.Items.{Call, Says, unchanged, unchanged_at, acquire_locks, acquire_sorted, perform, Clear, rules}
 use Rattle.history.specs.Judged.{clear_front, clear_back, clear_append, judged_at, grant, seen_as, sorted_locks, as_asked, performed, made_so}
-use Rattle.history.specs.Shared.{asked_cells, sorted_cells, chosen_keys, first_place, first_place_at, chosen_length, chosen_count, chosen_cell, chosen_binding, sorted_few}
+use Rattle.history.proofs.Shared.{asked_cells, sorted_cells, chosen_keys, first_place, first_place_at, chosen_length, chosen_count, chosen_cell, chosen_binding, sorted_few}
 use Rattle.history_exact.specs.Passing.{bindings_clear}
 use Rattle.sorted_theory.specs.Statements.{FirstBad, BeyondChecks, AsLocks, AsMultilock}
 use Rattle.sorted_theory.specs.Keys.{fault_first}

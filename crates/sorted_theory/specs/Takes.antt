@@ -27,9 +27,9 @@ use Rattle.types.specs.declared.Took.{Took}
 use Rattle.types.specs.declared.Tried.{Tried}
 use Rattle.history.specs.World.{World}
 use Rattle.history.specs.Items.{Says, acquire_sorted, cell_of, key_cell, perform}
-use Rattle.history.specs.ByKey.{FoundAt, found_own}
-use Rattle.history.specs.Rollback.{Foreigner, Every, end, also, every_append, every_map, boundary_foreign}
-use Rattle.history.specs.Shared.{sorted_cells, chosen_keys, sorted_rises, rising_at, chosen_cell}
+use Rattle.history.proofs.ByKey.{FoundAt, found_own}
+use Rattle.history.proofs.Rollback.{Foreigner, Every, end, also, every_append, every_map, boundary_foreign}
+use Rattle.history.proofs.Shared.{sorted_cells, chosen_keys, sorted_rises, rising_at, chosen_cell}
 use Rattle.sorted_theory.specs.Statements.{TakesRise}
 use Rattle.sorted_theory.specs.Runs.{Goes, refused_whole_lem, refused_key, locks, goes}
 

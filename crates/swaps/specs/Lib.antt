@@ -3,17 +3,4 @@ pub mod Logs
 pub mod Renaming
 pub mod Scripts
 pub mod Statements
-pub mod Theorems
-pub mod Examples
 pub mod Fine
-pub mod Pairs
-pub mod Acts
-pub mod Rows
-pub mod Lists
-pub mod Owners
-pub mod Recasts
-pub mod Retakes
-pub mod Boundaries
-pub mod Walks
-pub mod Rescripts
-pub mod Environments

@@ -25,7 +25,7 @@ use Rattle.choice.specs.Pick.{if_both}
 use Rattle.laws.specs.Outcomes as locked
 use Rattle.laws.specs.Outcomes.{Comes, lock_comes}
 use Rattle.history.specs.Tests.{differ, if_cases}
-use Rattle.history.specs.Steps.{With}
+use Rattle.history.proofs.Steps.{With}
 
 pub data Finds (headers buckets : ℕ) (g registry : List ℕ) (binding bucket : ℕ) : Found → Type 0 where
   bad_header_lem : headers ≤ get_or registry binding 0

@@ -12,7 +12,7 @@ use Rattle.text.specs.Laws.{drop_one, before_at, digit_is, digits_at, value_at}
 use Rattle.wave_rules.specs.Lines.{same}
 use Rattle.wave_rules.specs.Dump.{turned, bit_line}
 use Rattle.wave_rules.specs.Reader.{cell_in, is_change}
-use Rattle.wave_rules.specs.Stages.{nested, same_true}
+use Rattle.wave_rules.proofs.Stages.{nested, same_true}
 use Rattle.wave_line.specs.declared.Time.{Time}
 use Rattle.wave_line.specs.Stages.{sum_of, stamp_of}
 use Rattle.wave_line.specs.Laws.{low_byte, high_byte, digit_byte, stamp_made, same_bit}

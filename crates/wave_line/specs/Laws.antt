@@ -14,7 +14,8 @@ use Rattle.wave_rules.specs.declared.Stage.TheVariants.{Opening, Scope, Variable
 use Rattle.wave_rules.specs.declared.Verdict.TheVariants.{Bad}
 use Rattle.wave_rules.specs.Dump.{timescale, scope_line, var_line, upscope, end_line, time_line, bit_line}
 use Rattle.wave_rules.specs.Reader.{time_in, cell_in, after_variable, after_value, is_time, is_change, next_of, bits_of, at_end, script_words_at}
-use Rattle.wave_rules.specs.Stages.{false_not, nested, same_refl as same_self, same_true, time_later, Reach, reach_next}
+use Rattle.wave_rules.specs.Stages.{Reach}
+use Rattle.wave_rules.proofs.Stages.{false_not, nested, same_refl as same_self, same_true, time_later, reach_next}
 use Rattle.wave_line.specs.Stages.{is_lost, Early, waits_of, sum_of, stamp_of, after_time}
 use Rattle.print.specs.Print.{put_of}
 use Rattle.wave_write.specs.Laws.{length_time, length_bit, length_var, five_digits}

@@ -17,7 +17,8 @@ use Rattle.wave_rules.specs.declared.Verdict.TheVariants.{Fine, Bad}
 use Rattle.wave_rules.specs.Lines.{torn, line, put, split_of}
 use Rattle.wave_rules.specs.Dump.{no_bits, flip_of}
 use Rattle.wave_rules.specs.Reader.{cell_in, is_change, next_of, bits_of, at_end, unless, verdict_of, idle, kind_for, script_words_at, script_words_of, read}
-use Rattle.wave_rules.specs.Stages.{Reach, reach_next, false_not, bad_not, idle_length, words_count}
+use Rattle.wave_rules.specs.Stages.{Reach}
+use Rattle.wave_rules.proofs.Stages.{reach_next, false_not, bad_not, idle_length, words_count}
 use Rattle.wave_rules.specs.Calls.{answered}
 use Rattle.wave_rules.specs.declared.Undumped.TheVariants.{Read, NoRoom}
 use Rattle.wave_line.specs.Stages.{is_lost, Early, waits_of, stamp_of}

@@ -8,9 +8,9 @@ use Rattle.wave_rules.specs.declared.Undumped.{Undumped}
 use Rattle.wave_rules.specs.declared.Undumped.TheVariants as undumped
 use Rattle.wave_rules.specs.Calls.{bad_history, too_wide, fitted_of, write_of, answered, read_into_of}
 use Rattle.wave_rules.specs.Dump.{no_bits, changes_of, flip_of, dump_of, Dumpable}
-use Rattle.wave_rules.specs.Limits.{history_good, cells_good, fits_dumpable}
+use Rattle.wave_rules.proofs.Limits.{history_good, cells_good, fits_dumpable}
 use Rattle.wave_rules.specs.Reader.{idle, kind_for, Reading, read, refused, read_of}
-use Rattle.wave_rules.specs.Stages.{idle_length}
+use Rattle.wave_rules.proofs.Stages.{idle_length}
 use Rattle.wave_theory.specs.Bits.{bits_after}
 use Rattle.wave_theory.specs.Image.{image}
 use Rattle.wave_theory.specs.Round.{trim_of, round_trip, same_bits}

@@ -3,7 +3,7 @@ use Rattle.std.specs.Prelude.{ℕ, zero, suc, ◌+◌, ◌*◌, ◌-◌, ◌≤�
 use Rattle.std.proofs.Common.{sym, ap, ◌∙◌, arith, lt-ltb, ltb-true, ltb-false}
 use Rattle.wave_rules.specs.Lines.{Items, finish, torn, line, split_of, same}
 use Rattle.wave_theory.specs.Texts.{items_of, text_of, text_split, text_items}
-use Rattle.wave_rules.specs.Stages.{bad_not, nested, time_later, idle_length, onward, same_true}
+use Rattle.wave_rules.proofs.Stages.{bad_not, nested, time_later, idle_length, onward, same_true}
 use Rattle.wave_rules.specs.Dump.{no_bits, turns, turned, changes_of, flip_of, timescale, scope_line, var_line, upscope, end_line, time_line, bit_line, each_of, vars_of, first_of, body_of, middle_of, lines_of, dump_of, Dumpable}
 use Rattle.wave_rules.specs.declared.Stage.{Stage}
 use Rattle.wave_rules.specs.declared.Stage.TheVariants.{Opening, Scope, Variables, Ending, Start, Values, Waiting, Changing, Lost}

@@ -10,7 +10,7 @@ use Rattle.text.specs.Back.{glyph_is, number_back}
 use Rattle.wave_rules.specs.Lines.{Items, line, same}
 use Rattle.wave_theory.specs.Texts.{items_of, plain, all_plain, split_joined}
 use Rattle.wave_theory.specs.Bits.{bits_after}
-use Rattle.wave_rules.specs.Stages.{changes_in_lem, same_refl}
+use Rattle.wave_rules.proofs.Stages.{changes_in_lem, same_refl}
 use Rattle.wave_rules.specs.Dump.{no_bits, turns, turned, changes_of, flip_of, timescale, scope_line, var_line, upscope, end_line, time_line, bit_line, each_of, vars_of, first_of, body_of, middle_of, lines_of, dump_of, Dumpable}
 use Rattle.wave_rules.specs.declared.Stage.{Stage}
 use Rattle.wave_rules.specs.declared.Stage.TheVariants.{Opening, Scope, Variables, Ending, Start, Values, Waiting, Changing}

@@ -3,7 +3,8 @@ use Rattle.std.specs.Prelude.{ℕ, zero, suc, ◌+◌, ◌-◌, ◌≤◌, ◌<�
 use Rattle.std.proofs.Common.{sym, ap, ◌∙◌, arith}
 use Rattle.wave_rules.specs.Lines.{Items, finish, torn, line, put, split_of}
 use Rattle.wave_theory.specs.Texts.{items_of, text_of, split_joined, text_split}
-use Rattle.wave_rules.specs.Stages.{bad_not, Reach, reach_next, same_refl}
+use Rattle.wave_rules.specs.Stages.{Reach}
+use Rattle.wave_rules.proofs.Stages.{bad_not, reach_next, same_refl}
 use Rattle.wave_rules.specs.Dump.{no_bits, flip_of, scope_line, end_line, time_line, first_of, lines_of, dump_of, Dumpable}
 use Rattle.wave_rules.specs.declared.Stage.{Stage}
 use Rattle.wave_rules.specs.declared.Stage.TheVariants.{Opening, Scope, Variables, Ending, Start, Values, Waiting, Changing, Lost}

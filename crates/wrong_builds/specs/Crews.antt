@@ -11,7 +11,7 @@ use Rattle.types.specs.declared.CrewReply.{CrewReply}
 use Rattle.crew_theory.specs.Statements.{In, flat, UnfinishedSaid, RoundsAfter, Demand3}
 use Rattle.crew_theory.specs.Examples.{opened}
 use Rattle.pinned.specs.Statements.{Crews}
-use Rattle.pinned.specs.Theorems.{no_other_crew}
+use Rattle.pinned.proofs.Theorems.{no_other_crew}
 use Rattle.wrong_builds.specs.Wrong.{sevens_unfinished, first_only, moves_one}
 
 -- before its first turn the crew has taken nothing, and the wrong reply says 7

@@ -1,5 +1,5 @@
 -- `book::claim_check` meets its contract.
-use Rattle.book_rules.specs.Fine.{shape_head}
+use Rattle.book_rules.proofs.Fine.{shape_head}
 use mathlib.Core.Path.{sym, ◌∙◌}
 use Rattle.book_rules.specs.Rules.{first_fault, claim_rules}
 use Rattle.std.proofs.Common.{rules}

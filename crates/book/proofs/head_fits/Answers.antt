@@ -3,7 +3,7 @@ use native.Mathlib.Nat.{mul-le-mul}
 use mathlib.Core.Path.{sym, ◌∙◌}
 use native.Mathlib.Omega.{arith}
 use Rattle.book.specs.Model.{many_headers, many_buckets}
-use Rattle.book_rules.specs.Fine.{head_alone}
+use Rattle.book_rules.proofs.Fine.{head_alone}
 use Rattle.book.proofs.head_fits.Goals as goal
 
 pub returns-then-h-gt64 : goal.returns-then-h-gt64

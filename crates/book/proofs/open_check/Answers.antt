@@ -1,7 +1,7 @@
 -- `book::open_check` meets its contract.
 use mathlib.Core.Path.{sym, ◌∙◌}
 use native.Mathlib.Omega.{arith}
-use Rattle.book_rules.specs.Fine.{slot_fine}
+use Rattle.book_rules.proofs.Fine.{slot_fine}
 use Rattle.book_rules.specs.Rules.{first_fault, open_rules}
 use Rattle.book.specs.Model.{some_slots}
 use Rattle.std.proofs.Common.{rules}

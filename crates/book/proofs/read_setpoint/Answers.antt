@@ -2,7 +2,7 @@
 use mathlib.Core.Path.{sym, ◌∙◌}
 use native.Mathlib.Omega.{arith}
 use Rattle.book_rules.specs.Calls.{read_setpoint_of}
-use Rattle.book_rules.specs.Fine.{open_fine}
+use Rattle.book_rules.proofs.Fine.{open_fine}
 use Rattle.book.specs.Model.{read_is, open_readable}
 use Rattle.book.proofs.read_setpoint.Goals as goal
 

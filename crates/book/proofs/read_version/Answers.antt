@@ -1,7 +1,7 @@
 -- `book::read_version` meets its contract.
 use mathlib.Core.Path.{sym, ◌∙◌}
 use native.Mathlib.Omega.{arith}
-use Rattle.book_rules.specs.Fine.{open_fine}
+use Rattle.book_rules.proofs.Fine.{open_fine}
 use Rattle.book.specs.Model.{read_is, open_readable}
 use Rattle.book.proofs.read_version.Goals as goal
 

@@ -1,6 +1,6 @@
 -- `book::write_setpoint` meets its contract.
 use Rattle.book.specs.Model.{some_slots, write_is}
-use Rattle.book_rules.specs.Fine.{shape_head, claim_fine}
+use Rattle.book_rules.proofs.Fine.{shape_head, claim_fine}
 use native.Mathlib.Omega.{arith}
 use mathlib.Core.Path.{sym, ◌∙◌}
 use Rattle.std.proofs.Common.{rules}

@@ -3,7 +3,7 @@ use Prim.Native.Nat.{◌+◌, ◌*◌, ◌-◌, ◌/◌}
 use mathlib.Core.Path.{sym, ◌∙◌}
 use native.Mathlib.Omega.{arith}
 use borrow.Author.Tests.{eq-eqb, ne_eqb}
-use Rattle.book_rules.specs.Sound.{is_kept_lem}
+use Rattle.book_rules.proofs.Sound.{is_kept_lem}
 use Rattle.book_compact.specs.Lines.{is_moved, line_put, put_place_of, two_stores}
 use lib.ListN.{length-set}
 use Rattle.book_compact.proofs.put_place.Goals as goal

@@ -2,7 +2,7 @@
 use Prim.Native.Nat.{◌+◌, ◌*◌}
 use mathlib.Core.Path.{sym, ◌∙◌}
 use native.Mathlib.Omega.{arith}
-use Rattle.book_rules.specs.Sound.{is_kept_lem}
+use Rattle.book_rules.proofs.Sound.{is_kept_lem}
 use Rattle.book_rules.specs.Writing.{drop_oldest_of}
 use Rattle.book_enter.proofs.drop_oldest.Goals as goal
 

@@ -1,6 +1,6 @@
 -- `book_sound::scan` meets its contract.
 use Rattle.std.proofs.Common.{◌≡◌, ◌-◌, ◌*◌, ◌≤◌, length, sym, refl, ◌∙◌, arith, rules}
-use Rattle.book_rules.specs.Sound.{kept_fits}
+use Rattle.book_rules.proofs.Sound.{kept_fits}
 use Rattle.book_sound.specs.Scan.{Wanted, wanted_more, scan_of, scan_start, scan_turn, scan_end}
 use Rattle.book_sound.proofs.scan.Given as goal
 

@@ -1,5 +1,5 @@
 -- `skid::skid_read_version` meets its contract.
-use Rattle.book_rules.specs.Outcomes.{body_read_lem}
+use Rattle.book_rules.proofs.Outcomes.{body_read_lem}
 use Rattle.skid.proofs.skid_read_version.Goals as goal
 
 pub book_words-requires : goal.book_words-requires

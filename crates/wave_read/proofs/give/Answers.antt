@@ -4,7 +4,7 @@ use native.Mathlib.Omega.{arith}
 use lib.ListN.{length}
 use Rattle.wave_rules.specs.Lines.{split_of}
 use Rattle.wave_rules.specs.Dump.{no_bits}
-use Rattle.wave_rules.specs.Stages.{words_count}
+use Rattle.wave_rules.proofs.Stages.{words_count}
 use Rattle.wave_read.specs.Laws.{give_none, give_some}
 use Rattle.wave_read.proofs.give.Goals as goal
 

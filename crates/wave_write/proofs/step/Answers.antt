@@ -2,7 +2,7 @@
 use mathlib.Core.Path.{◌∙◌}
 use native.Mathlib.Omega.{arith}
 use lib.ListN.{get_or}
-use Rattle.wave_rules.specs.Stages.{changes_in_lem}
+use Rattle.wave_rules.proofs.Stages.{changes_in_lem}
 use Rattle.wave_write.specs.Laws.{turn_true, turn_false, wanted_is, wanted_few, step_done, step_none}
 use Rattle.std.proofs.Common.{rules}
 use Rattle.wave_write.proofs.step.Goals as goal

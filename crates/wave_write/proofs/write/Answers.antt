@@ -1,7 +1,7 @@
 -- `wave_write::write` meets its contract.
 use mathlib.Core.Path.{sym, ◌∙◌}
 use Rattle.wave_rules.specs.Calls.{write_of}
-use Rattle.wave_rules.specs.Limits.{history_fits, cells_fit}
+use Rattle.wave_rules.proofs.Limits.{history_fits, cells_fit}
 use Rattle.wave_write.proofs.write.Goals as goal
 
 pub returns-then-bad_history : goal.returns-then-bad_history

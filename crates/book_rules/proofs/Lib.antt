@@ -1,0 +1,8 @@
+pub mod Appended
+pub mod Dropped
+pub mod Fine
+pub mod Reads
+pub mod Slid
+pub mod Sound
+pub mod Wrote
+pub mod Outcomes

@@ -1,0 +1,10 @@
+pub mod Alone
+pub mod Deeds
+pub mod Ended
+pub mod Rounds
+pub mod Seen
+pub mod Steady
+pub mod Theorems
+pub mod Tightness
+pub mod Told
+pub mod Whole

@@ -1,0 +1,14 @@
+pub mod AsCalls
+pub mod BackCalls
+pub mod Beside
+pub mod Crewed
+pub mod Decided
+pub mod Examples
+pub mod Histories
+pub mod Met
+pub mod Ours
+pub mod Read
+pub mod Salvaged
+pub mod SortedCall
+pub mod Stepping
+pub mod Theorems

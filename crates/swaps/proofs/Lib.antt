@@ -1,0 +1,13 @@
+pub mod Acts
+pub mod Boundaries
+pub mod Environments
+pub mod Examples
+pub mod Lists
+pub mod Owners
+pub mod Pairs
+pub mod Recasts
+pub mod Rescripts
+pub mod Retakes
+pub mod Rows
+pub mod Theorems
+pub mod Walks
