@@ -1,7 +1,7 @@
 pub mod Appended
 pub mod Dropped
 pub mod Fine
-pub mod Reads
+pub mod Readings
 pub mod Slid
 pub mod Sound
 pub mod Wrote

@@ -22,7 +22,7 @@ use Rattle.book_rules.proofs.Appended.{goes_of, goes_own, goes_other}
 use Rattle.book_rules.proofs.Wrote.{Wrote, put_wrote}
 use Rattle.book_rules.proofs.Fine.{SlotFine, slot_fine, BookFine}
 use Rattle.book_rules.proofs.Outcomes.{Prepared, was_prepared, not_prepared, preparing_is, prepare_alike, Outcome, done, full, refused, writing_is, Keeps, kept_or, read_kept, read_lost}
-use Rattle.book_rules.proofs.Reads.{kept_tells, other_reads, own_reads, new_reads, dropped_reads, newest_other, version_zero, prepared_sound, prepared_clean}
+use Rattle.book_rules.proofs.Readings.{kept_tells, other_reads, own_reads, new_reads, dropped_reads, newest_other, version_zero, prepared_sound, prepared_clean}
 use Rattle.book_rules.specs.declared.BookAnswer.{BookAnswer}
 use Rattle.book_rules.specs.declared.BookAnswer.TheVariants.{Done, Written, Setting, Refused}
 use Rattle.book_rules.specs.declared.BookRefusal.TheVariants.{BadShape, BadSlot, DamagedBook, NeverWritten}

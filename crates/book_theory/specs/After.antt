@@ -23,7 +23,7 @@ use Rattle.book_rules.specs.Wrote.{staying_of}
 use Rattle.book_rules.proofs.Wrote.{is_staying, staying_is, Wrote, put_wrote, still_moved}
 use Rattle.book_rules.proofs.Fine.{shape_head}
 use Rattle.book_rules.proofs.Outcomes.{Claim, Outcome, done, full, refused, writing_is}
-use Rattle.book_rules.proofs.Reads.{other_reads, own_reads, new_reads, dropped_reads}
+use Rattle.book_rules.proofs.Readings.{other_reads, own_reads, new_reads, dropped_reads}
 use Rattle.book_rules.specs.declared.BookAnswer.{BookAnswer}
 use Rattle.book_rules.specs.declared.BookAnswer.TheVariants.{Done, Written, Setting, Refused}
 use Rattle.book_rules.specs.declared.BookRefusal.{BookRefusal}

@@ -17,7 +17,7 @@ use Rattle.book_rules.proofs.Fine.{SlotFine, slot_fine}
 use Rattle.book_rules.specs.Sound.{Sound}
 use Rattle.book_rules.proofs.Sound.{sound_is, is_sound_lem}
 use Rattle.book_rules.proofs.Outcomes.{Keeps, kept_or, read_kept, read_lost, read_damaged}
-use Rattle.book_rules.proofs.Reads.{kept_tells}
+use Rattle.book_rules.proofs.Readings.{kept_tells}
 use Rattle.book_rules.specs.declared.BookAnswer.{BookAnswer}
 use Rattle.book_rules.specs.declared.BookAnswer.TheVariants.{Setting, Refused}
 use Rattle.book_rules.specs.declared.BookRefusal.TheVariants.{DamagedBook, NeverWritten}

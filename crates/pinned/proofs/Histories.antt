@@ -11,7 +11,7 @@ use Rattle.types.specs.declared.SalvageReply.{SalvageReply}
 use Rattle.history.specs.World.{World, world_of}
 use Rattle.history.specs.Items.{Build, Stepper, Says, Item, call, foreign_step, preparation, preparation_over, salvage, salvage_over, Course, noted, saying, preparing, prepared_by, salvaging, salvaged_by, next_item, run}
 use Rattle.pinned.specs.Statements.{Meets, StepsAlone, Preparer, PreparesArena, Salvager, SalvagesArena}
-use Rattle.pinned.proofs.Met.{no_other_build}
+use Rattle.pinned.proofs.AllMet.{no_other_build}
 use Rattle.pinned.proofs.Beside.{no_other_step, no_other_preparer}
 use Rattle.pinned.proofs.Salvaged.{no_other_salvage}
 

@@ -5,7 +5,7 @@ pub mod Crewed
 pub mod Decided
 pub mod Examples
 pub mod Histories
-pub mod Met
+pub mod AllMet
 pub mod Ours
 pub mod Read
 pub mod Salvaged

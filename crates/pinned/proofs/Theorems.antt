@@ -18,7 +18,7 @@ use Rattle.history.proofs.Theorems.{demand_2}
 use Rattle.pinned.specs.Words.{logged, IsLive}
 use Rattle.pinned.specs.Checks.{number_and_carried}
 use Rattle.pinned.specs.Statements.{Passes, Meets, Crews, Works, StepsAlone, Preparer, PreparesArena, Salvager, SalvagesArena}
-use Rattle.pinned.proofs.Met as met
+use Rattle.pinned.proofs.AllMet as met
 use Rattle.pinned.proofs.Beside as beside
 use Rattle.pinned.proofs.Salvaged as salvaged
 use Rattle.pinned.proofs.AsCalls as as_calls

@@ -18,7 +18,7 @@ pub mod MeetsBucket
 pub mod MeetsCells
 pub mod MeetsLock
 pub mod MeetsMultilock
-pub mod Met
+pub mod AllMet
 pub mod OneLease
 pub mod Open
 pub mod OpenBodies

@@ -33,7 +33,7 @@ use Rattle.upstream.proofs.TryLock.{try_lock_valid, try_lock_e2, try_lock_e3, tr
 use Rattle.upstream.proofs.ContractBorrows.{EnsuresAcquirePreservingBorrows, ContractAcquirePreservingBorrows, EnsuresDropPreservingBorrows, ContractDropPreservingBorrows}
 use Rattle.upstream.proofs.ContractLock.{EnsuresTryLock, ContractTryLock}
 use Rattle.upstream.specs.ContractMultilock.{ContractReleaseAll}
-use Rattle.upstream.proofs.Met.{two_held}
+use Rattle.upstream.proofs.AllMet.{two_held}
 
 -- ---- contracts
 
