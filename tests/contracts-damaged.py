@@ -9,8 +9,8 @@ import sys
 import contracts
 
 PAGE, LIST = contracts.PAGE, 'tests/contracts.txt'
-LOCK, CELLS = 'crates/upstream/specs/ContractLock.antt', 'crates/upstream/specs/ContractCells.antt'
-BORROWS, MEETS = 'crates/upstream/specs/ContractBorrows.antt', 'crates/upstream/specs/MeetsLock.antt'
+LOCK, CELLS = 'crates/upstream/proofs/ContractLock.antt', 'crates/upstream/specs/ContractCells.antt'
+BORROWS, MEETS = 'crates/upstream/proofs/ContractBorrows.antt', 'crates/upstream/proofs/MeetsLock.antt'
 
 # files, how, what is replaced (a pattern), by what, and what the test must say. `fill`: the made parts of the page are
 # written anew before the test, so that nothing is refused for being out of date. `text`: so too, and only upstream's
@@ -55,7 +55,7 @@ DAMAGES = [
      'records TryLock: the crate does not say "pub meets_try_lock'),
     (MEETS, 'fill', r'(pub implied_try_lock : .*) → Contract', r'\1 → Promise',
      'records TryLock: the crate does not say "pub implied_try_lock'),
-    ('crates/upstream/specs/Met.antt', 'fill', r'pub met_try_lock : RequiresTryLock',
+    ('crates/upstream/proofs/AllMet.antt', 'fill', r'pub met_try_lock : RequiresTryLock',
      'pub met_try_lock : EnsuresTryLock',
      'records TryLock: no arguments meet what is required'),
     # a call swapped, or named where all is left out: on the page, on page and list, in the promise

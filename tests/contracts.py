@@ -151,7 +151,13 @@ def parsed(file, text):
 
 
 def specs(crate, file):
-    return parsed(file, read('crates', crate, 'specs', file + '.antt'))
+    return parsed(file, read('crates', crate, folder(crate, file), file + '.antt'))
+
+
+def folder(crate, file):
+    """specs, or proofs for a file that rests on theorems"""
+    there = os.path.isfile(os.path.join(ROOT, 'crates', crate, 'proofs', file + '.antt'))
+    return 'proofs' if there else 'specs'
 
 
 @functools.lru_cache(maxsize=None)
@@ -178,9 +184,10 @@ class Upstream:
     """the contracts of crate upstream: records by function, and who meets them"""
 
     def __init__(self):
-        names = sorted(n[:-5] for n in os.listdir(os.path.join(ROOT, 'crates/upstream/specs')) if n.endswith('.antt'))
+        names = sorted({n[:-5] for part in ('specs', 'proofs') for n in os.listdir(os.path.join(ROOT, 'crates/upstream', part))
+                        if n.endswith('.antt')})
         self.files = {n: specs('upstream', n) for n in names}
-        self.texts = {n: read('crates/upstream/specs', n + '.antt') for n in names}
+        self.texts = {n: read('crates/upstream', folder('upstream', n), n + '.antt') for n in names}
         self.home = {}
         for file in names:
             if file.startswith('Contract'):
@@ -215,7 +222,7 @@ class Upstream:
     def theorems(self, function):
         """who keeps the promise and meets the contract: ours, as (file, line), and wrong builds, as File.name"""
         mine = [(file, line) for about, file, line in self.said if about == function]
-        ours = sorted((x for x in mine if x[0].startswith('Meets') or x[0] == 'Met'), key=lambda x: x[0] == 'Met')
+        ours = sorted((x for x in mine if x[0].startswith('Meets') or x[0] == 'AllMet'), key=lambda x: x[0] == 'AllMet')
         return ours, ['%s.%s' % (file, line.split()[1]) for file, line in mine if (file, line) not in ours]
 
 
@@ -599,7 +606,7 @@ def check_loops(page, listed):
             continue
         place = re.match(r'(\w+): (\w+)\.(\w+)\.(\w+)$', row.last)
         crate, file, record, field = place.groups() if place else ('', '', '', '')
-        if not os.path.isfile(os.path.join(ROOT, 'crates', crate, 'specs', file + '.antt')):
+        if not os.path.isfile(os.path.join(ROOT, 'crates', crate, folder(crate, file), file + '.antt')):
             complain('%s: no such file: %s' % (row.name, row.last))
         elif field not in fields(tuple(specs(crate, file).decls.get(record, ()))):
             complain('%s: record %s of crate %s, file %s, has no field %s' % (row.name, record, crate, file, field))

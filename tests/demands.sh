@@ -12,13 +12,13 @@ names=$(awk -F'|' '
     !/^\|/ { table = 0; next }
     { for (j = 1; j <= n; j++) print $(col[j]) }' "$page" | grep -oE '`[a-z][a-z0-9_-]*[ `]' | tr -d '` ' | sort -u)
 [ -n "$names" ] || { echo "$page: no names"; exit 1; }
-specs=$(ls -d crates/{model,laws,history,history_exact,crew_theory,sorted_theory,crew_at_work_theory,pinned,book_theory,salvage_theory,boot_theory,book_pinned,wrong_builds}/specs)
+specs=$(ls -d crates/{model,laws,history,history_exact,crew_theory,sorted_theory,crew_at_work_theory,pinned,book_theory,salvage_theory,boot_theory,book_pinned,wrong_builds}/{specs,proofs} 2>/dev/null)
 wrong=$(
     for name in $names; do
         grep -rqs "^ *pub $name : " $specs || echo "$name is declared nowhere"
     done
-    { sed -n 's/^pub \([^ ]*\) : .*/\1/p' crates/{history,history_exact,crew_theory,sorted_theory,crew_at_work_theory,pinned,book_theory,salvage_theory,boot_theory,book_pinned}/specs/Theorems.antt
-      sed -n 's/^pub \([^ ]*_falls\) : .*/\1/p' crates/{wrong_builds,book_pinned}/specs/*.antt; } | sort -u | while read -r name; do
+    { sed -n 's/^pub \([^ ]*\) : .*/\1/p' crates/{history,history_exact,crew_theory,sorted_theory,crew_at_work_theory,pinned,book_theory,salvage_theory,boot_theory,book_pinned}/{specs,proofs}/Theorems.antt
+      sed -n 's/^pub \([^ ]*_falls\) : .*/\1/p' crates/{wrong_builds,book_pinned}/{specs,proofs}/*.antt; } 2>/dev/null | sort -u | while read -r name; do
         grep -qF -e "\`$name\`" -e "\`$name " "$page" || echo "$name is not on $page"
     done
 )

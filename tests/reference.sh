@@ -47,10 +47,10 @@ done
 
 wrong=$(
     while IFS=. read -r file word; do
-        declared "$word" crates/{types,model}/specs/"$file.antt" || echo "$file.$word is in no $file.antt of crates types and model"
+        declared "$word" crates/{types,model}/{specs,proofs}/"$file.antt" || echo "$file.$word is in no $file.antt of crates types and model"
     done < <(names_of "$page" docs/MAP.md)
     while IFS=. read -r file word; do
-        declared "$word" crates/*/specs/"$file.antt" || echo "docs/DECISIONS.md names $file.$word, which no crate has"
+        declared "$word" crates/*/{specs,proofs}/"$file.antt" || echo "docs/DECISIONS.md names $file.$word, which no crate has"
     done < <(names_of docs/DECISIONS.md | grep -vx File.name)
     for file in $rules; do
         sed -n 's/^unfoldable pub \([^ ]*\) : .*/\1/p' crates/{types,model}/specs/"$file.antt" 2>/dev/null | while read -r word; do

@@ -8,7 +8,8 @@ ghost use Rattle.model.specs.Arena.{head_fits, shape_fits, hold_in};
 ghost use Rattle.setpoint.specs.Codec.{has_body};
 ghost use Rattle.book_rules.specs.Layout.{slots_of, front_of, place_at};
 ghost use Rattle.book_rules.specs.Rules.{first_fault, is_bad_book, is_bad_slot, is_holder, claim_rules, open_rules};
-ghost use Rattle.book_rules.specs.Calls.{prepare_book_of, write_setpoint_of, line_read, read_version_of, read_setpoint_of};
+ghost use Rattle.book_rules.specs.Calls.{prepare_book_of, write_setpoint_of, line_read, read_version_of};
+ghost use Rattle.book_rules.specs.Calls.{read_setpoint_of};
 ghost use Rattle.book.specs.Model.{write_over_of, read_kept_of, Readable};
 
 use book_rules::{BookAnswer, BookCheck, BookRefusal};

@@ -16,8 +16,8 @@ use Rattle.book_rules.specs.Many.{count_most, most_within}
 use Rattle.book_rules.specs.Sound.{Kept, Apart, Fits, Alike}
 use Rattle.book_rules.proofs.Sound.{is_kept_lem, is_unkept, sound_is}
 use Rattle.book_rules.proofs.Dropped.{dropped}
-use Rattle.book_rules.specs.Wrote.{staying_of}
-use Rattle.book_rules.proofs.Wrote.{is_staying, staying_is}
+use Rattle.book_rules.specs.Wrote.{staying_of, is_staying}
+use Rattle.book_rules.proofs.Wrote.{staying_is}
 use Rattle.book_rules.proofs.Appended.{line_long}
 use Rattle.book_sound.specs.Scan.{cell_of, offset_of, Marked}
 use Rattle.book_compact.specs.Lines.{compacted_of}

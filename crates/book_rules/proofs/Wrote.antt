@@ -19,11 +19,7 @@ use Rattle.book_rules.proofs.Sound.{kept_is, is_kept_lem, unkept_is, is_unkept}
 use Rattle.book_rules.proofs.Dropped.{Dropped, dropped}
 use Rattle.book_rules.proofs.Slid.{Slid, slid}
 use Rattle.book_rules.proofs.Appended.{goes_of, goes_own, goes_other, Came, is_new, is_own, is_other, came, Appended, appended}
-use Rattle.book_rules.specs.Wrote.{staying_of}
-
--- a used line that a write on the slot does not drop
-abbrev pub is_staying : List ℕ → ℕ → ℕ → Bool
-is_staying b slot k = is_kept b k && not (eqb k (4 * slot + 3))
+use Rattle.book_rules.specs.Wrote.{is_staying, staying_of}
 
 pub staying_is : (n : ℕ) (b : List ℕ) (slot : ℕ) → slot < n → Sound n b → kept_of n (drop_oldest_of b slot) ≡ staying_of n b slot
 unfolding kept_of staying_of

@@ -15,6 +15,10 @@ use Rattle.book_rules.specs.Layout.{five_at, lines_of, front_of, place_at, versi
 use Rattle.book_rules.specs.Writing.{count, most, drop_oldest_of, kept_of, end_of, is_crowded, is_full, slid_of, moved_of, compact_of, append_of, put_over_of, put_of}
 use Rattle.book_rules.specs.Many.{count_same, count_none, most_start, most_each}
 
+-- a used line that a write on the slot does not drop
+abbrev pub is_staying : List ℕ → ℕ → ℕ → Bool
+is_staying b slot k = is_kept b k && not (eqb k (4 * slot + 3))
+
 -- how many bodies stay: those that are kept after the drop
 unfoldable pub staying_of : ℕ → List ℕ → ℕ → ℕ
 staying_of n b slot = count (lines_of n) (is_staying b slot)

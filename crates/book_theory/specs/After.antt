@@ -19,8 +19,8 @@ use Rattle.book_rules.proofs.Sound.{sound_is, is_sound_lem, is_kept_lem}
 use Rattle.book_rules.proofs.Dropped.{dropped}
 use Rattle.book_rules.proofs.Slid.{ends_is}
 use Rattle.book_rules.proofs.Appended.{goes_of}
-use Rattle.book_rules.specs.Wrote.{staying_of}
-use Rattle.book_rules.proofs.Wrote.{is_staying, staying_is, Wrote, put_wrote, still_moved}
+use Rattle.book_rules.specs.Wrote.{staying_of, is_staying}
+use Rattle.book_rules.proofs.Wrote.{staying_is, Wrote, put_wrote, still_moved}
 use Rattle.book_rules.proofs.Fine.{shape_head}
 use Rattle.book_rules.proofs.Outcomes.{Claim, Outcome, done, full, refused, writing_is}
 use Rattle.book_rules.proofs.Readings.{other_reads, own_reads, new_reads, dropped_reads}

@@ -15,7 +15,7 @@ use Rattle.book_rules.specs.Writing.{count, drop_oldest_of, is_crowded}
 use Rattle.book_rules.specs.Rules.{first_fault, bad_table, bad_slot, is_bad_slot, last_version}
 use Rattle.book_rules.specs.Sound.{Kept, Apart, Sound, Free}
 use Rattle.book_rules.proofs.Appended.{goes_of}
-use Rattle.book_rules.proofs.Wrote.{is_staying}
+use Rattle.book_rules.specs.Wrote.{is_staying}
 use Rattle.book_rules.proofs.Outcomes.{Keeps}
 use Rattle.book_rules.specs.declared.BookAnswer.{BookAnswer}
 use Rattle.book_rules.specs.declared.BookAnswer.TheVariants.{Done, Written, Setting, Refused}

@@ -5,13 +5,16 @@
 #![tactic(auto)]
 
 ghost use Rattle.std.specs.Prelude.{◌≡◌, true, [], ◌∷◌, ◌+◌, ◌*◌, ◌/◌, ◌<◌, ◌≤◌, length, drop};
-ghost use Rattle.model.specs.Arena.{cells_of, hold_of, holds_of, leases_of, set_cell, shape_fits, is_live, same_hold, is_in};
+ghost use Rattle.model.specs.Arena.{cells_of, hold_of, holds_of, leases_of, set_cell, shape_fits, is_live, same_hold};
+ghost use Rattle.model.specs.Arena.{is_in};
 ghost use Rattle.model.specs.Refusals.{first};
 ghost use Rattle.model.specs.Lock.{outcome_of, answer_of};
 ghost use Rattle.model.specs.Checks.{cell_rules, lease_rules, held_cell_rules, held_lease_rules, bad_held};
 ghost use Rattle.model.specs.Checks.{not_live, bad_cell, stale_boot, not_held, is_protected};
-ghost use Rattle.model.specs.Calls.{acquire_of, try_acquire_of, drop_lease_of, read_permission_of, competing_acquire_of};
-ghost use Rattle.model.specs.Calls.{release_then_handoff_of, foreign_release_of, acquire_preserving_of, drop_preserving_of};
+ghost use Rattle.model.specs.Calls.{acquire_of, try_acquire_of, drop_lease_of, read_permission_of};
+ghost use Rattle.model.specs.Calls.{competing_acquire_of};
+ghost use Rattle.model.specs.Calls.{release_then_handoff_of, foreign_release_of, acquire_preserving_of};
+ghost use Rattle.model.specs.Calls.{drop_preserving_of};
 ghost use Rattle.laws.specs.Checks.{lease_in};
 ghost use Rattle.lease.specs.Model.{claim_at_of, claim_free_of, claim_reply_of};
 ghost use Rattle.lease.specs.Drop.{drop_behind_of, drop_unprotected_of};

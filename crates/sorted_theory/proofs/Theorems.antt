@@ -3,6 +3,7 @@
 use Rattle.model.specs.Crew.{crew_of, crew_at_work_of}
 use Rattle.history.specs.Items.{perform}
 use Rattle.sorted_theory.specs.Statements.{Shares, SerialsByCell, ApartByCell, TakenRising, TakesRise, EachKeyLive, SortedHealthy, KeysFirst, ChecksAsTyped, SortedQuiet, LaterPosition, Fourteen, OnceDone}
+use Rattle.sorted_theory.specs.Callers as said
 use Rattle.sorted_theory.proofs.Callers as callers
 use Rattle.sorted_theory.specs.Granted as granting
 use Rattle.sorted_theory.specs.Refused as refusing
@@ -60,14 +61,14 @@ once_done = repeating.once_done
 
 -- ---- demand 3
 
-pub callers_are_crew : callers.CallersAreCrew
+pub callers_are_crew : said.CallersAreCrew
 callers_are_crew = callers.callers_are_crew
 
-pub lists_are : callers.ListsAre
+pub lists_are : said.ListsAre
 lists_are = callers.lists_are
 
-pub callers_finish : callers.CallersFinish crew_of
+pub callers_finish : said.CallersFinish crew_of
 callers_finish = callers.callers_finish
 
-pub callers_finish_at_work : callers.CallersFinishAtWork crew_at_work_of
+pub callers_finish_at_work : said.CallersFinishAtWork crew_at_work_of
 callers_finish_at_work = callers.callers_finish_at_work
