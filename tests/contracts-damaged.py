@@ -9,8 +9,9 @@ import sys
 import contracts
 
 PAGE, LIST = contracts.PAGE, 'tests/contracts.txt'
-LOCK, CELLS = 'crates/upstream/proofs/ContractLock.antt', 'crates/upstream/specs/ContractCells.antt'
-BORROWS, MEETS = 'crates/upstream/proofs/ContractBorrows.antt', 'crates/upstream/proofs/MeetsLock.antt'
+LOCK, CELLS, BORROWS, MEETS, MET = (contracts.places('upstream', file)[0] for file in (
+    'ContractLock', 'ContractCells', 'ContractBorrows', 'MeetsLock', 'AllMet'))
+RETRYING = contracts.places('bucket', 'Laws')[0]
 
 # files, how, what is replaced (a pattern), by what, and what the test must say. `fill`: the made parts of the page are
 # written anew before the test, so that nothing is refused for being out of date. `text`: so too, and only upstream's
@@ -55,7 +56,7 @@ DAMAGES = [
      'records TryLock: the crate does not say "pub meets_try_lock'),
     (MEETS, 'fill', r'(pub implied_try_lock : .*) → Contract', r'\1 → Promise',
      'records TryLock: the crate does not say "pub implied_try_lock'),
-    ('crates/upstream/proofs/AllMet.antt', 'fill', r'pub met_try_lock : RequiresTryLock',
+    (MET, 'fill', r'pub met_try_lock : RequiresTryLock',
      'pub met_try_lock : EnsuresTryLock',
      'records TryLock: no arguments meet what is required'),
     # a call swapped, or named where all is left out: on the page, on page and list, in the promise
@@ -82,7 +83,7 @@ DAMAGES = [
      '001.acquire_index_locks.i2: the page says'),
     (PAGE + ' ' + LIST, 'fill', r'(001\.acquire_index_locks\.i2 .*)as_many', r'\1as_few',
      '001.acquire_index_locks.i2: record Matches of crate upstream, file Guards, has no field as_few'),
-    ('crates/bucket/specs/Laws.antt', 'fill', r'pub few : i ≤ 4096', 'pub fewer : i ≤ 4096',
+    (RETRYING, 'fill', r'pub few : i ≤ 4096', 'pub fewer : i ≤ 4096',
      '000.acquire_index_bucket.i1: record Retrying of crate bucket, file Laws, has no field few'),
     # names that are not there
     ('docs/DIFFERENCES.md', 'fill', r'`never_locks`', '`never_unlocks`', 'docs/DIFFERENCES.md names never_unlocks'),

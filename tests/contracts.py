@@ -150,14 +150,18 @@ def parsed(file, text):
     return Specs(file, text)
 
 
+def places(crate, file):
+    """a file of definitions and theorems: it stands in specs/ or proofs/, or has a part in each"""
+    paths = ['/'.join(('crates', crate, part, file + '.antt')) for part in ('specs', 'proofs')]
+    return [path for path in paths if os.path.isfile(os.path.join(ROOT, path))]
+
+
+def file_text(crate, file):
+    return '\n\n'.join(read(path) for path in places(crate, file))
+
+
 def specs(crate, file):
-    return parsed(file, read('crates', crate, folder(crate, file), file + '.antt'))
-
-
-def folder(crate, file):
-    """specs, or proofs for a file that rests on theorems"""
-    there = os.path.isfile(os.path.join(ROOT, 'crates', crate, 'proofs', file + '.antt'))
-    return 'proofs' if there else 'specs'
+    return parsed(file, file_text(crate, file))
 
 
 @functools.lru_cache(maxsize=None)
@@ -184,10 +188,10 @@ class Upstream:
     """the contracts of crate upstream: records by function, and who meets them"""
 
     def __init__(self):
-        names = sorted({n[:-5] for part in ('specs', 'proofs') for n in os.listdir(os.path.join(ROOT, 'crates/upstream', part))
-                        if n.endswith('.antt')})
+        found = [n for part in ('specs', 'proofs') for n in os.listdir(os.path.join(ROOT, 'crates/upstream', part))]
+        names = sorted({n[:-5] for n in found if n.endswith('.antt') and n != 'Lib.antt'})
         self.files = {n: specs('upstream', n) for n in names}
-        self.texts = {n: read('crates/upstream', folder('upstream', n), n + '.antt') for n in names}
+        self.texts = {n: file_text('upstream', n) for n in names}
         self.home = {}
         for file in names:
             if file.startswith('Contract'):
@@ -606,7 +610,7 @@ def check_loops(page, listed):
             continue
         place = re.match(r'(\w+): (\w+)\.(\w+)\.(\w+)$', row.last)
         crate, file, record, field = place.groups() if place else ('', '', '', '')
-        if not os.path.isfile(os.path.join(ROOT, 'crates', crate, folder(crate, file), file + '.antt')):
+        if not places(crate, file):
             complain('%s: no such file: %s' % (row.name, row.last))
         elif field not in fields(tuple(specs(crate, file).decls.get(record, ()))):
             complain('%s: record %s of crate %s, file %s, has no field %s' % (row.name, record, crate, file, field))

@@ -12,13 +12,16 @@ names=$(awk -F'|' '
     !/^\|/ { table = 0; next }
     { for (j = 1; j <= n; j++) print $(col[j]) }' "$page" | grep -oE '`[a-z][a-z0-9_-]*[ `]' | tr -d '` ' | sort -u)
 [ -n "$names" ] || { echo "$page: no names"; exit 1; }
-specs=$(ls -d crates/{model,laws,history,history_exact,crew_theory,sorted_theory,crew_at_work_theory,pinned,book_theory,salvage_theory,boot_theory,book_pinned,wrong_builds}/{specs,proofs} 2>/dev/null)
+# definitions and theorems: the files of specs/, and those of proofs/ that belong to no function
+specs=$(ls crates/{model,laws,history,history_exact,crew_theory,sorted_theory,crew_at_work_theory,pinned,book_theory,salvage_theory,boot_theory,book_pinned,wrong_builds}/{specs,proofs}/*.antt 2>/dev/null)
 wrong=$(
     for name in $names; do
-        grep -rqs "^ *pub $name : " $specs || echo "$name is declared nowhere"
+        grep -qs "^ *pub $name : " $specs || echo "$name is declared nowhere"
     done
-    { sed -n 's/^pub \([^ ]*\) : .*/\1/p' crates/{history,history_exact,crew_theory,sorted_theory,crew_at_work_theory,pinned,book_theory,salvage_theory,boot_theory,book_pinned}/{specs,proofs}/Theorems.antt
-      sed -n 's/^pub \([^ ]*_falls\) : .*/\1/p' crates/{wrong_builds,book_pinned}/{specs,proofs}/*.antt; } 2>/dev/null | sort -u | while read -r name; do
+    { for crate in history history_exact crew_theory sorted_theory crew_at_work_theory pinned book_theory salvage_theory boot_theory book_pinned; do
+          cat crates/$crate/{specs,proofs}/Theorems.antt 2>/dev/null | sed -n 's/^pub \([^ ]*\) : .*/\1/p' | grep . || echo "theorems-of-$crate"
+      done
+      cat crates/{wrong_builds,book_pinned}/{specs,proofs}/*.antt 2>/dev/null | sed -n 's/^pub \([^ ]*_falls\) : .*/\1/p'; } | sort -u | while read -r name; do
         grep -qF -e "\`$name\`" -e "\`$name " "$page" || echo "$name is not on $page"
     done
 )

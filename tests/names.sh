@@ -139,7 +139,7 @@ wrong_names() {
         function judge(span, n, part, i) {
             if (span ~ /^[A-Z][A-Za-z]*\.[A-Za-z][A-Za-z0-9_-]*$/) { judge_file_name(span); return }
             if (span ~ /^[A-Za-z0-9_.-]+(\/[A-Za-z0-9_.*-]+)+\/?$/) {
-                if (span ~ /^target\/|^(crates\/[a-z0-9_]+\/)?out\/|\*|\.\.|(^|\/)[A-Z]+(\/|\.)/ && span !~ /^docs\//) return
+                if (span ~ /^target\/|^(crates\/[a-z0-9_]+\/)?out(\/|$)|\*|\.\.|(^|\/)[A-Z]+(\/|\.)/ && span !~ /^docs\//) return
                 sub(/\/$/, "", span)
                 checked++
                 if (!(span in any)) complain(span, "is no file")

@@ -78,13 +78,14 @@ wrong=$(
     damaged pinned/Steps 'use Rattle.types.specs.Head.{cells_of}'
     damaged pinned/Steps 'use Rattle.model.specs.Log.{Made, gives}'
     damaged pinned/Statements 'use Rattle.history.specs.Items.{Call, perform}'
-    damaged pinned/Statements 'use Rattle.pinned.specs.Decided.{matched}'
+    damaged pinned/Statements 'use Rattle.pinned.proofs.Decided.{matched}'
+    damaged pinned/Statements 'use Rattle.pinned.specs.Same.{Same}'
     damaged pinned/Statements 'size = Rattle.types.specs.Head.cells_of'
     damaged book_pinned/Statement 'use Rattle.book_rules.specs.Layout.{is_sound}'
     damaged book_pinned/Statement 'use Rattle.book_rules.specs.Writing as writing'
     damaged book_pinned/Statement 'use Rattle.setpoint.specs.Codec.{setting_of}'
     damaged book_pinned/Statement 'use Rattle.model.specs.Arena.{shape_fits}'
-    damaged book_pinned/Statement 'use Rattle.pinned.specs.Decided.{Decides}'
+    damaged book_pinned/Statement 'use Rattle.pinned.proofs.Decided.{Decides}'
     damaged book_pinned/Statement 'use Rattle.book_pinned.specs.Plain.{place_is}'
     looks crates $files
     types

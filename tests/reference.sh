@@ -1,6 +1,6 @@
 #!/bin/bash
 # docs/REFERENCE.md against the definitions and the header, and the definitions' quotes against the documents:
-# - every name File.name on the page, and on docs/MAP.md, is declared in File.antt of crates/types/specs or crates/model/specs; and every rule of these files, a
+# - every name File.name on the page, and on docs/MAP.md, is declared in File.antt of crate types or crate model, in specs/ or in proofs/; and every rule of these files, a
 #   definition that is `unfoldable pub`, stands on the page. Every such name on docs/DECISIONS.md is declared in File.antt of some crate;
 # - every call of include/skid.h has its heading on the page, every refusal its number and name in the table of refusals, and every SKID_..
 #   on the page stands in the header; a number behind it in the reply's table is the header's;
@@ -15,6 +15,7 @@ rules="Head Numbers Arena Refusals Answers Foreign Lock Checks Calls Crew Sorted
 documents=${SHARED_DOCS:-../shared/docs}
 quoting=(
     crates/{types,model}/specs/*.antt
+    crates/model/proofs/*.antt
     crates/history/specs/{Statements,Answers}.antt
     crates/history_exact/specs/{Statements,Script,Attempts}.antt
     crates/{crew_theory,sorted_theory,crew_at_work_theory}/specs/Statements.antt
@@ -53,7 +54,7 @@ wrong=$(
         declared "$word" crates/*/{specs,proofs}/"$file.antt" || echo "docs/DECISIONS.md names $file.$word, which no crate has"
     done < <(names_of docs/DECISIONS.md | grep -vx File.name)
     for file in $rules; do
-        sed -n 's/^unfoldable pub \([^ ]*\) : .*/\1/p' crates/{types,model}/specs/"$file.antt" 2>/dev/null | while read -r word; do
+        sed -n 's/^unfoldable pub \([^ ]*\) : .*/\1/p' crates/{types,model}/{specs,proofs}/"$file.antt" 2>/dev/null | while read -r word; do
             grep -qxF "$file.$word" <<< "$names" || echo "$file.$word is not on $page"
         done
     done
