@@ -60,6 +60,7 @@ fn refusal_words(kind: u64, refusal: Refusal, position: usize) -> [u64; 6]
 }
 
 // Words 9 to 14 of Busy.
+#[inline(always)]
 fn busy_words(reason: u32, serial: u32) -> [u64; 6]
     ensures { result ≡ busy_words reason serial }
 {
@@ -67,6 +68,7 @@ fn busy_words(reason: u32, serial: u32) -> [u64; 6]
 }
 
 // Words 9 to 14 of a grant.
+#[inline(always)]
 fn granted_words(lease: Lease) -> [u64; 6]
     ensures { result ≡ answer_words (Granted lease) }
 {
@@ -96,6 +98,7 @@ fn answer_words(answer: Answer) -> [u64; 6]
 }
 
 // The same, with the short answers at hand: a call that is granted or done then calls nothing for its words.
+#[inline(always)]
 fn said_words(answer: Answer) -> [u64; 6]
     ensures { result ≡ answer_words answer }
 {
@@ -111,6 +114,7 @@ fn said_words(answer: Answer) -> [u64; 6]
 }
 
 // All fifteen.
+#[inline(always)]
 fn words(head: Head, place: usize, counts: Counts, answer: Answer) -> [u64; 15]
     ensures { result ≡ result_words head place counts answer }
 {
@@ -135,6 +139,7 @@ fn words(head: Head, place: usize, counts: Counts, answer: Answer) -> [u64; 15]
 }
 
 // Of a call without a script: place 0.
+#[inline(always)]
 pub fn reply_words(r: Reply) -> [u64; 15]
     ensures { result ≡ reply_words r }
 {
@@ -145,6 +150,7 @@ pub fn reply_words(r: Reply) -> [u64; 15]
 }
 
 // Of a call with a script.
+#[inline(always)]
 pub fn script_reply_words(r: ScriptReply) -> [u64; 15]
     ensures { result ≡ script_reply_words r }
 {
