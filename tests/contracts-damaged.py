@@ -9,8 +9,9 @@ import sys
 import contracts
 
 PAGE, LIST = contracts.PAGE, 'tests/contracts.txt'
-LOCK, CELLS, BORROWS, MEETS, MET = (contracts.places('upstream', file)[0] for file in (
-    'ContractLock', 'ContractCells', 'ContractBorrows', 'MeetsLock', 'AllMet'))
+# records stand in specs/, theorems in proofs/
+LOCK, CELLS, BORROWS = (contracts.places('upstream', file)[0] for file in ('ContractLock', 'ContractCells', 'ContractBorrows'))
+MEETS, MET = (contracts.places('upstream', file)[-1] for file in ('MeetsLock', 'AllMet'))
 RETRYING = contracts.places('bucket', 'Laws')[0]
 
 # files, how, what is replaced (a pattern), by what, and what the test must say. `fill`: the made parts of the page are

@@ -34,12 +34,12 @@ SOURCES = {'000': 'ownership.verus.rs.txt', '001': 'guards.verus.rs.txt'}
 VERDICTS = ('same', 'stronger', 'refused instead of required', 'different', 'left out')
 KINDS = {'r': 'requires', 'e': 'ensures', 'n': 'without a clause', 'i': 'of a loop', 'd': 'of a loop'}
 # the constructor of a call in a promise, and the call's name
-CALLS = {'try_acquire_lem': 'try_acquire', 'drop_lease': 'drop_lease', 'read_permission': 'read_permission',
+CALLS = {'try_acquire': 'try_acquire', 'drop_lease': 'drop_lease', 'read_permission': 'read_permission',
          'competing_acquire': 'competing_acquire_is_excluded', 'release_then_handoff': 'release_then_handoff',
          'foreign_release': 'foreign_release_between_attempts', 'drop_preserving': 'drop_preserving_borrows',
-         'acquire_preserving': 'acquire_preserving_borrows', 'environment': 'environment', 'try_lock_lem': 'try_lock',
+         'acquire_preserving': 'acquire_preserving_borrows', 'environment': 'environment', 'try_lock': 'try_lock',
          'transactional': 'transactional_try_lock_bucket', 'acquire_bucket': 'acquire_index_bucket',
-         'release_all_lem': 'release_all', 'acquire_locks': 'acquire_index_locks'}
+         'release_all': 'release_all', 'acquire_locks': 'acquire_index_locks'}
 # what a verdict says in these words, the field of `Here` must be: a pattern, or None for the field of `Ensures` itself
 WORDS = {'always': None,
          'cell by cell': r'keeps_valid w \(final m\)',

@@ -5,7 +5,7 @@ camel case. Run once, at the top, after the kit's port.py, whose own respelling 
 usage: python3 tools/respell.py [--list]        --list prints old and new names, and changes nothing
 
 Functions of src/, generated names, names of the kit and module paths stay. Two names that would fall together keep apart: the
-lemma gets _lem.
+one that had hyphens gets _lem. The first run, which docs/PORT.md names, had no BOTH and no TYPES, and left fourteen words in import lines.
 """
 import collections
 import os
@@ -78,7 +78,16 @@ def collect():
 
 
 # Types that fall together with another type, and a word that falls together with std's.
-APART = {"All-live": "AllAreLive", "By-cell": "PerCell", "Cell-in": "CellAmong", "is-Some": "is_some_serial"}
+APART = {"All-live": "AllAreLive", "By-cell": "PerCell", "Cell-in": "CellAmong", "is-Some": "is_some_serial", "Not-finite": "IsNotFinite"}
+
+# Types that port.py took for words.
+TYPES = {"Found_at": "FoundAt", "Goes_on": "GoesOn"}
+
+# Names that fall together and never meet in one file, none of them a lemma's: they need no _lem.
+BOTH = set(
+    "answer_in at_end at_work bad_header bad_key binding_at cell_of counts_of crew_at_work header_of held_by is_full is_lost"
+    " refused_at refused_whole release_all script_of try_acquire try_lock version_in world_of".split()
+)
 
 
 def mapping(own):
@@ -91,8 +100,8 @@ def mapping(own):
         camel = [n for n in names if n != new and "-" not in n]
         keeps = camel[0] if camel else new if new in names else names[0]
         for n in names:
-            to[n] = new if n == keeps else new + "_lem"
-    return to
+            to[n] = new if n == keeps or new in BOTH else new + "_lem"
+    return to | TYPES
 
 
 def imported(text):
@@ -123,12 +132,12 @@ def turn_spec(path, text, to):
         if m:
             tail = (m[3] or "") + (m[4] or "")
             if is_own(m[2]):
-                tail = WORD.sub(lambda w: w[0] if w[0] == "as" else to.get(w[0], w[0]), tail)
+                tail = WORD.sub(lambda w: w[0] if w[0] == "as" else to.get(w[0], plain(w[0])), tail)
             code = m[1] + m[2] + tail + (";" if code.rstrip().endswith(";") else "")
         else:
             # what is no name of the kit and no word of ours is a name bound in the file
             code = WORD.sub(lambda w: w[0] if w[0] in kit else to.get(w[0]) or (plain(w[0]) if w[0][0].islower() and local(w[0], code, w.start()) else w[0]), code)
-        out.append(code + turn_comment(comment, to, kit))
+        out.append(code.replace("◌and-then◌", "◌and_then◌") + turn_comment(comment, to, kit))
     return "\n".join(out)
 
 
@@ -153,7 +162,7 @@ def turn_source(path, text, to):
         if m and "ghost" in m[1]:
             tail = (m[3] or "") + (m[4] or "")
             if is_own(m[2]):
-                tail = WORD.sub(lambda w: w[0] if w[0] == "as" else to.get(w[0], w[0]), tail)
+                tail = WORD.sub(lambda w: w[0] if w[0] == "as" else to.get(w[0], plain(w[0])), tail)
             code = m[1] + m[2] + tail + ";"
         else:
             parts = re.split(r'("(?:[^"\\]|\\.)*")', code)

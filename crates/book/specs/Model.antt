@@ -11,9 +11,10 @@ use Rattle.book_rules.specs.Writing.{put_of}
 use Rattle.book_rules.specs.Rules.{first_fault, judge_book, claim_rules, over_rules, open_rules, kept_rules}
 use Rattle.book_rules.specs.Calls.{written_of, write_setpoint_of, line_read, read_version_of}
 use Rattle.book_rules.proofs.Sound.{sound_is}
-use Rattle.book_rules.proofs.Outcomes.{Keeps}
+use Rattle.book_rules.specs.Outcomes.{Keeps}
 use Rattle.book_rules.proofs.Readings.{kept_line}
-use Rattle.book_rules.proofs.Fine.{OpenFine, or_then, faults_append, head_alone}
+use Rattle.book_rules.specs.Fine.{OpenFine, or_then}
+use Rattle.book_rules.proofs.Fine.{faults_append, head_alone}
 use Rattle.book_rules.specs.declared.BookAnswer.{BookAnswer}
 use Rattle.book_rules.specs.declared.BookAnswer.TheVariants.{Refused}
 use Rattle.book_rules.specs.declared.BookCheck.{BookCheck}

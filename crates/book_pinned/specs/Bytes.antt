@@ -21,7 +21,7 @@ use Rattle.book_rules.specs.Sound.{Kept, Apart, Fits}
 use Rattle.book_rules.proofs.Sound.{kept_is, is_kept_lem}
 use Rattle.book_rules.proofs.Slid.{laid_long, laid_low}
 use Rattle.book_rules.proofs.Appended.{shifted_long, body_long}
-use Rattle.book_pinned.specs.Statement.{place_in, version_in_lem, newest, Stays, Goes, InBody, Left}
+use Rattle.book_pinned.specs.Statement.{place_in, version_in, newest, Stays, Goes, InBody, Left}
 use Rattle.book_pinned.specs.Same.{not_oldest}
 use Rattle.book_pinned.specs.Plain.{place_is, kept}
 
@@ -216,13 +216,13 @@ module _ (n : ℕ) (e : List ℕ) (slot : ℕ) (s : Setpoint) (v p : ℕ) (insid
 pub record Before (n : ℕ) (b e : List ℕ) (slot : ℕ) (to : ℕ → ℕ) : Type 0 where
   pub long : length e ≡ length b
   pub rest : (k i : ℕ) → k < 4 * n → k ≢ 4 * slot + 3 → 2 ≤ i → i < 8 → get_or e (8 * k + i) 0 ≡ get_or b (8 * k + i) 0
-  pub unused : (k i : ℕ) → k < 4 * n → k ≢ 4 * slot + 3 → version_in_lem b k ≡ 0 → i < 2 → get_or e (8 * k + i) 0 ≡ get_or b (8 * k + i) 0
+  pub unused : (k i : ℕ) → k < 4 * n → k ≢ 4 * slot + 3 → version_in b k ≡ 0 → i < 2 → get_or e (8 * k + i) 0 ≡ get_or b (8 * k + i) 0
   pub front : (k : ℕ) → Stays n b slot k → 32 * n ≤ to k
   pub bodies : (k i : ℕ) → Stays n b slot k → i < 5 → get_or e (to k + i) 0 ≡ get_or b (place_in b k + i) 0
-  pub vacated : (j : ℕ) → 32 * n ≤ j → ((k : ℕ) → Stays n b slot k → InBody (to k) j → ⊥) → (k : ℕ) → k < 4 * n → version_in_lem b k ≢ 0 → InBody (place_in b k) j
+  pub vacated : (j : ℕ) → 32 * n ≤ j → ((k : ℕ) → Stays n b slot k → InBody (to k) j → ⊥) → (k : ℕ) → k < 4 * n → version_in b k ≢ 0 → InBody (place_in b k) j
       → ◌≡◌ {A = ℕ} (get_or e j 0) 0
   pub untouched : (j : ℕ) → 32 * n ≤ j → ((k : ℕ) → Stays n b slot k → InBody (to k) j → ⊥)
-      → ((k : ℕ) → k < 4 * n → version_in_lem b k ≢ 0 → InBody (place_in b k) j → ⊥) → get_or e j 0 ≡ get_or b j 0
+      → ((k : ℕ) → k < 4 * n → version_in b k ≢ 0 → InBody (place_in b k) j → ⊥) → get_or e j 0 ≡ get_or b j 0
 
 module _ (n : ℕ) (b e : List ℕ) (slot : ℕ) (s : Setpoint) (to : ℕ → ℕ) (p : ℕ) (inside : slot < n) (front : 32 * n ≤ p) (fit : p + 5 ≤ length e)
     (r : Before n b e slot to) (last : (k : ℕ) → Stays n b slot k → to k + 5 ≤ p) where

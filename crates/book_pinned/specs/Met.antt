@@ -24,7 +24,8 @@ use Rattle.book_rules.specs.declared.BookCheck.{BookCheck}
 use Rattle.book_rules.specs.declared.BookRefusal.TheVariants.{BadSlot, StaleBoot, NotHeld, NotFinite, DamagedBook, VersionsSpent, BookFull, NeverWritten}
 use Rattle.history.specs.Tests.{if_cases}
 use Rattle.pinned.specs.Words.{Is, If◌Then◌Else◌, With, arena, IsLive}
-use Rattle.pinned.proofs.Decided.{Decides, shape_decides, or_decides, ltb_decides, owned, owning, leb_decides, ne_decides, not_decides}
+use Rattle.pinned.specs.Decided.{Decides}
+use Rattle.pinned.proofs.Decided.{shape_decides, or_decides, ltb_decides, owned, owning, leb_decides, ne_decides, not_decides}
 use Rattle.book_pinned.specs.Statement.{slots, place_in, newest, IsNotFinite, BodyAt, Undamaged, staying, BookBuild, BadHead, BadBook, NotHolder, PreparesBook, Puts, WritesOver, Writes, NotKept, ReadsVersion, MeetsBook}
 use Rattle.book_pinned.specs.Plain.{place_is, version_is, body_is, finite_decides, undamaged_there, undamaged_back, damage_decides, staying_is}
 use Rattle.book_pinned.specs.Puts.{puts_is}

@@ -18,10 +18,12 @@ use Rattle.book_rules.specs.Layout.{five_at, place_at, length_at, version_at, is
 use Rattle.book_rules.specs.Writing.{count, drop_oldest_of, kept_of, rank_of, slid_of, moved_of}
 use Rattle.book_rules.specs.Sound.{Kept, Fits, Sound}
 use Rattle.book_rules.proofs.Sound.{kept_is, unkept_is, sound_is, is_sound_lem}
-use Rattle.book_rules.proofs.Dropped.{Dropped, dropped}
+use Rattle.book_rules.specs.Dropped.{Dropped}
+use Rattle.book_rules.proofs.Dropped.{dropped}
 use Rattle.history.specs.Tests.{differ as apart_from}
-use Rattle.pinned.proofs.Decided.{Decides, not_decides}
-use Rattle.book_pinned.specs.Statement.{place_in, length_in, version_in_lem, IsNotFinite, Means, BodyAt, Undamaged, Stays, differ, less, stays, sum, staying, staying_before, slid, moved}
+use Rattle.pinned.specs.Decided.{Decides}
+use Rattle.pinned.proofs.Decided.{not_decides}
+use Rattle.book_pinned.specs.Statement.{place_in, length_in, version_in, IsNotFinite, Means, BodyAt, Undamaged, Stays, differ, less, stays, sum, staying, staying_before, slid, moved}
 
 -- ---- lines
 
@@ -33,14 +35,14 @@ length_is : (b : List ℕ) (k : ℕ) → length_at b k ≡ length_in b k
 unfolding length_at length_in join_of
 length_is b k = omega arith
 
-pub version_is : (b : List ℕ) (k : ℕ) → version_at b k ≡ version_in_lem b k
-unfolding version_at version_in_lem join_of
+pub version_is : (b : List ℕ) (k : ℕ) → version_at b k ≡ version_in b k
+unfolding version_at version_in join_of
 version_is b k = refl
 
-pub kept : (b : List ℕ) (k : ℕ) → version_in_lem b k ≢ 0 → Kept b k
+pub kept : (b : List ℕ) (k : ℕ) → version_in b k ≢ 0 → Kept b k
 kept b k u = omega (arith, u, version_is b k)
 
-pub used : (b : List ℕ) (k : ℕ) → Kept b k → version_in_lem b k ≢ 0
+pub used : (b : List ℕ) (k : ℕ) → Kept b k → version_in b k ≢ 0
 used b k h e = omega (arith, version_is b k)
 
 -- ---- what five bytes mean
@@ -140,7 +142,7 @@ undamaged_back n b u =
       falls = λ k l.
           let e : 4 * (k / 4) + k % 4 ≡ k = omega arith in
           let top : k - k % 4 ≡ 4 * (k / 4) = omega arith in
-          omega (arith, u.falling (k / 4) (k % 4) (omega arith) (omega arith), ap (version_in_lem b) e, ap (version_at b) top, version_is b k, version_is b (4 * (k / 4)));
+          omega (arith, u.falling (k / 4) (k % 4) (omega arith) (omega arith), ap (version_in b) e, ap (version_at b) top, version_is b k, version_is b (4 * (k / 4)));
       fits =
           record {
             unused = λ k l z. let x = u.unused k l (sym (version_is b k) ∙ z) in (place_is b k ∙ x.0, length_is b k ∙ x.1);
@@ -204,15 +206,15 @@ module _ (n : ℕ) (b : List ℕ) (slot : ℕ) (inside : slot < n) (f : Fits n b
 
   line : (k : ℕ) → k < 4 * n → Line k
   unfolding stays
-  line k l = go (ℕ_discrete k (4 * slot + 3)) (ℕ_discrete (version_in_lem b k) 0)
+  line k l = go (ℕ_discrete k (4 * slot + 3)) (ℕ_discrete (version_in b k) 0)
     where
-      go : Dec (k ≡ 4 * slot + 3) → Dec (version_in_lem b k ≡ 0) → Line k
+      go : Dec (k ≡ 4 * slot + 3) → Dec (version_in b k ≡ 0) → Line k
       go (yes e) v = it_goes (unkept_is d k (ap (version_at d) e ∙ drops.gone)) (rw (differ_no k (4 * slot + 3) e) (omega arith))
       go (no e) (yes v) =
-          it_goes (unkept_is d k ((drops.lines k l e).2 ∙ version_is b k ∙ v)) (rw (differ_no (version_in_lem b k) 0 v) (omega arith))
+          it_goes (unkept_is d k ((drops.lines k l e).2 ∙ version_is b k ∙ v)) (rw (differ_no (version_in b k) 0 v) (omega arith))
       go (no e) (no v) =
           let t : Stays n b slot k = record { inside = l; is_used = v; not_dropped = e } in
-          it_stays t (kept_is d k (stays_kept k t)) (rw (differ_yes (version_in_lem b k) 0 v, differ_yes k (4 * slot + 3) e))
+          it_stays t (kept_is d k (stays_kept k t)) (rw (differ_yes (version_in b k) 0 v, differ_yes k (4 * slot + 3) e))
 
   -- a count of kept lines is a sum over those that stay
   counted : (g : ℕ → Bool) (h : ℕ → ℕ) → ((k : ℕ) → Stays n b slot k → (if g k then 1 else 0) ≡ h k)

@@ -15,11 +15,12 @@ use Rattle.book_rules.specs.Calls.{written_of}
 use Rattle.book_rules.specs.Many.{Beside, most_start, most_each}
 use Rattle.book_rules.specs.Sound.{Kept, Apart, Fits}
 use Rattle.book_rules.proofs.Sound.{kept_is, is_kept_lem}
-use Rattle.book_rules.proofs.Dropped.{Dropped, dropped}
+use Rattle.book_rules.specs.Dropped.{Dropped}
+use Rattle.book_rules.proofs.Dropped.{dropped}
 use Rattle.book_rules.proofs.Slid.{front_is, ends_is, laid_byte, laid_else, erased_body, erased_else}
 use Rattle.book_rules.specs.declared.BookAnswer.TheVariants.{Written}
 use Rattle.history.specs.Tests.{if_cases}
-use Rattle.book_pinned.specs.Statement.{place_in, version_in_lem, newest, Stays, staying, slid, moved, Crowded, BehindAll, InBody, Left, SamePlaces, NewPlaces, Puts}
+use Rattle.book_pinned.specs.Statement.{place_in, version_in, newest, Stays, staying, slid, moved, Crowded, BehindAll, InBody, Left, SamePlaces, NewPlaces, Puts}
 use Rattle.book_pinned.specs.Plain.{place_is, version_is, kept, used, stays_kept, stays_place, kept_stays, slid_is, staying_is, moved_is}
 use Rattle.book_pinned.specs.Bytes.{outside, drop_body, drop_line, drop_stays, drop_behind, compact_long, compact_place, compact_rest, compact_unused, compact_behind, append_line, Before, left_is}
 
@@ -43,12 +44,12 @@ module _ (n : ℕ) (b : List ℕ) (slot : ℕ) (inside : slot < n) (f : Fits n b
   drops = dropped n b slot inside f
 
   -- a byte of a used body that does not stay is one of the dropped body
-  in_dropped : (j k : ℕ) → k ≡ 4 * slot + 3 → version_in_lem b k ≢ 0 → InBody (place_in b k) j
+  in_dropped : (j k : ℕ) → k ≡ 4 * slot + 3 → version_in b k ≢ 0 → InBody (place_in b k) j
       → Kept b (4 * slot + 3) × (place_at b (4 * slot + 3) ≤ j) × (j < place_at b (4 * slot + 3) + 5)
   in_dropped j k e u v =
       (omega (arith, kept b k u, ap (version_at b) e), omega (arith, v.0, place_is b k, ap (place_at b) e), omega (arith, v.1, place_is b k, ap (place_at b) e))
 
-  no_dropped : (j : ℕ) → ((k : ℕ) → k < 4 * n → version_in_lem b k ≢ 0 → InBody (place_in b k) j → ⊥) → Kept b (4 * slot + 3) → InBody (place_at b (4 * slot + 3)) j → ⊥
+  no_dropped : (j : ℕ) → ((k : ℕ) → k < 4 * n → version_in b k ≢ 0 → InBody (place_in b k) j → ⊥) → Kept b (4 * slot + 3) → InBody (place_at b (4 * slot + 3)) j → ⊥
   no_dropped j q h w =
       q (4 * slot + 3) (omega arith) (used b (4 * slot + 3) h) (omega (arith, w.0, place_is b (4 * slot + 3)), omega (arith, w.1, place_is b (4 * slot + 3)))
 
@@ -64,7 +65,7 @@ module _ (n : ℕ) (b : List ℕ) (slot : ℕ) (inside : slot < n) (f : Fits n b
         untouched = λ j l o q. drop_behind n b slot inside f j l (no_dropped j q);
       }
     where
-      gone : (j : ℕ) → ((k : ℕ) → Stays n b slot k → InBody (place_in b k) j → ⊥) → (k : ℕ) → k < 4 * n → version_in_lem b k ≢ 0 → InBody (place_in b k) j
+      gone : (j : ℕ) → ((k : ℕ) → Stays n b slot k → InBody (place_in b k) j → ⊥) → (k : ℕ) → k < 4 * n → version_in b k ≢ 0 → InBody (place_in b k) j
           → Dec (k ≡ 4 * slot + 3) → ◌≡◌ {A = ℕ} (get_or d j 0) 0
       gone j o k h u v (yes e) = let w = in_dropped j k e u v in drop_body n b slot inside f j w.0 w.1 w.2
       gone j o k h u v (no e) = absurd (o k (record { inside = h; is_used = u; not_dropped = e }) v)
@@ -81,7 +82,7 @@ module _ (n : ℕ) (b : List ℕ) (slot : ℕ) (inside : slot < n) (f : Fits n b
         (λ y m q. let t = kept_stays n b slot inside f y m q in
         outside (slid_of n d (place_at d y)) j (λ w. o y t (omega (arith, w.0, slid_is n b slot inside f y t), omega (arith, w.1, slid_is n b slot inside f y t))))
 
-    gone : (j k : ℕ) → k < 4 * n → version_in_lem b k ≢ 0 → InBody (place_in b k) j → Dec (k ≡ 4 * slot + 3) → ◌≡◌ {A = ℕ} (get_or (erased_of n d) j 0) 0
+    gone : (j k : ℕ) → k < 4 * n → version_in b k ≢ 0 → InBody (place_in b k) j → Dec (k ≡ 4 * slot + 3) → ◌≡◌ {A = ℕ} (get_or (erased_of n d) j 0) 0
     gone j k h u v (no q) =
         let t : Stays n b slot k = record { inside = h; is_used = u; not_dropped = q } in
         let g : j ≡ place_at d k + (j - place_at d k) = omega (arith, v.0, stays_place n b slot inside f k t) in

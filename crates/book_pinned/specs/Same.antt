@@ -5,10 +5,11 @@ use Rattle.std.proofs.Math.Decide.{ℕ_discrete, dec_lt}
 use Rattle.types.specs.declared.Head.{Head}
 use Rattle.types.specs.declared.Lease.{Lease}
 use Rattle.setpoint.specs.declared.Setpoint.{Setpoint}
-use Rattle.book_rules.proofs.Appended.{Came, is_new, is_own, is_other, came}
+use Rattle.book_rules.specs.Appended.{Came, is_new, is_own, is_other}
+use Rattle.book_rules.proofs.Appended.{came}
 use Rattle.pinned.specs.Words.{If◌Then◌Else◌}
 use Rattle.pinned.specs.Same.{Same, is_same, if_same, with_same}
-use Rattle.book_pinned.specs.Statement.{byte, slots, place_in, version_in_lem, newest, Means, BodyAt, Stays, BehindAll, Goes, InBody, NoBodyNow, Left, SamePlaces, NewPlaces, BookBuild, BadBook, PreparesBook, Puts, WritesOver, Writes, ReadsVersion, MeetsBook}
+use Rattle.book_pinned.specs.Statement.{byte, slots, place_in, version_in, newest, Means, BodyAt, Stays, BehindAll, Goes, InBody, NoBodyNow, Left, SamePlaces, NewPlaces, BookBuild, BadBook, PreparesBook, Puts, WritesOver, Writes, ReadsVersion, MeetsBook}
 
 -- ---- a run of eight bytes, and of five, byte by byte
 
@@ -123,9 +124,9 @@ module _ (n : ℕ) (b : List ℕ) (slot : ℕ) (s : Setpoint) (to : ℕ → ℕ)
       (x.new_high.0 ∙ sym y.new_high.0) (x.new_high.1 ∙ sym y.new_high.1)
 
   old_line : (k j i : ℕ) → k < 4 * n → Goes slot k j → i < 8 → Agree (8 * j + i)
-  old_line k j i l g m = go (dec_lt i 2) (ℕ_discrete (version_in_lem b k) 0)
+  old_line k j i l g m = go (dec_lt i 2) (ℕ_discrete (version_in b k) 0)
     where
-      go : Dec (i < 2) → Dec (version_in_lem b k ≡ 0) → Agree (8 * j + i)
+      go : Dec (i < 2) → Dec (version_in b k ≡ 0) → Agree (8 * j + i)
       go (no u) v = x.lines k j i l g (omega arith) m ∙ sym (y.lines k j i l g (omega arith) m)
       go (yes u) (yes v) = x.unused k j i l v g u ∙ sym (y.unused k j i l v g u)
       go (yes u) (no v) = places k j i (record { inside = l; is_used = v; not_dropped = not_oldest slot k j g }) g u
@@ -143,19 +144,19 @@ module _ (n : ℕ) (b : List ℕ) (slot : ℕ) (s : Setpoint) (to : ℕ → ℕ)
 
   in_none : (i : ℕ) → NoBodyNow n b slot to p i → Agree i
   in_none i z =
-      go (look (4 * n) (λ k. (version_in_lem b k ≢ 0) × InBody (place_in b k) i) (λ k. dec_and (dec_not (ℕ_discrete (version_in_lem b k) 0)) (dec_in (place_in b k) i)))
+      go (look (4 * n) (λ k. (version_in b k ≢ 0) × InBody (place_in b k) i) (λ k. dec_and (dec_not (ℕ_discrete (version_in b k) 0)) (dec_in (place_in b k) i)))
     where
-      go : Dec ((k : ℕ) × (k < 4 * n) × ((version_in_lem b k ≢ 0) × InBody (place_in b k) i)) → Agree i
+      go : Dec ((k : ℕ) × (k < 4 * n) × ((version_in b k ≢ 0) × InBody (place_in b k) i)) → Agree i
       go (yes (k, l, u)) = x.vacated i z k l u.0 u.1 ∙ sym (y.vacated i z k l u.0 u.1)
       go (no f) = x.untouched i z (λ k l u v. f (k, l, (u, v))) ∙ sym (y.untouched i z (λ k l u v. f (k, l, (u, v))))
 
   behind_lines : (i : ℕ) → 32 * n ≤ i → i < length c → Agree i
   behind_lines i l m =
       go (dec_in p i)
-      (look (4 * n) (λ k. ((version_in_lem b k ≢ 0) × (k ≢ 4 * slot + 3)) × InBody (to k) i)
-      (λ k. dec_and (dec_and (dec_not (ℕ_discrete (version_in_lem b k) 0)) (dec_not (ℕ_discrete k (4 * slot + 3)))) (dec_in (to k) i)))
+      (look (4 * n) (λ k. ((version_in b k ≢ 0) × (k ≢ 4 * slot + 3)) × InBody (to k) i)
+      (λ k. dec_and (dec_and (dec_not (ℕ_discrete (version_in b k) 0)) (dec_not (ℕ_discrete k (4 * slot + 3)))) (dec_in (to k) i)))
     where
-      go : Dec (InBody p i) → Dec ((k : ℕ) × (k < 4 * n) × (((version_in_lem b k ≢ 0) × (k ≢ 4 * slot + 3)) × InBody (to k) i)) → Agree i
+      go : Dec (InBody p i) → Dec ((k : ℕ) × (k < 4 * n) × (((version_in b k ≢ 0) × (k ≢ 4 * slot + 3)) × InBody (to k) i)) → Agree i
       go (yes u) v = new_body i u.0 u.1
       go (no u) (yes (k, h, (w, v))) =
           let t : Stays n b slot k = record { inside = h; is_used = w.0; not_dropped = w.1 } in

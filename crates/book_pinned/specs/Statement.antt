@@ -32,12 +32,12 @@ place_in b k = byte b (8 * k) + byte b (8 * k + 1) * 256
 unfoldable pub length_in : (book : List ℕ) (line : ℕ) → ℕ
 length_in b k = byte b (8 * k + 2) + byte b (8 * k + 3) * 256
 
-unfoldable pub version_in_lem : (book : List ℕ) (line : ℕ) → ℕ
-version_in_lem b k = byte b (8 * k + 4) + byte b (8 * k + 5) * 256 + byte b (8 * k + 6) * 65536 + byte b (8 * k + 7) * 16777216
+unfoldable pub version_in : (book : List ℕ) (line : ℕ) → ℕ
+version_in b k = byte b (8 * k + 4) + byte b (8 * k + 5) * 256 + byte b (8 * k + 6) * 65536 + byte b (8 * k + 7) * 16777216
 
 -- a slot's newest version; 0 where it was never written
 abbrev pub newest : (book : List ℕ) (slot : ℕ) → ℕ
-newest b slot = version_in_lem b (4 * slot)
+newest b slot = version_in b (4 * slot)
 
 -- ---- a setpoint and its five bytes: "a kind byte (1, 2, 3 in that order) and four bytes, low byte first; a valve is 0 or 1"
 
@@ -76,16 +76,16 @@ BodyAt b p s = Means (byte b p) (byte b (p + 1) + byte b (p + 2) * 256 + byte b 
 
 pub record Undamaged (n : ℕ) (b : List ℕ) : Type 0 where
   -- "versions falling by one": the line of age a has the newest version less a, 0 where the slot has no such version (`-` ends at 0)
-  pub falling : (slot age : ℕ) → slot < n → age < 4 → version_in_lem b (4 * slot + age) ≡ newest b slot - age
+  pub falling : (slot age : ℕ) → slot < n → age < 4 → version_in b (4 * slot + age) ≡ newest b slot - age
   -- "unused lines zero"
-  pub unused : (k : ℕ) → k < 4 * n → version_in_lem b k ≡ 0 → (place_in b k ≡ 0) × (length_in b k ≡ 0)
+  pub unused : (k : ℕ) → k < 4 * n → version_in b k ≡ 0 → (place_in b k ≡ 0) × (length_in b k ≡ 0)
   -- a used line has length 5, and a place behind the contents and in the book; the five bytes there mean a setpoint
-  pub five : (k : ℕ) → k < 4 * n → version_in_lem b k ≢ 0 → length_in b k ≡ 5
-  pub behind : (k : ℕ) → k < 4 * n → version_in_lem b k ≢ 0 → 32 * n ≤ place_in b k
-  pub within : (k : ℕ) → k < 4 * n → version_in_lem b k ≢ 0 → place_in b k + 5 ≤ length b
-  pub means : (k : ℕ) → k < 4 * n → version_in_lem b k ≢ 0 → (s : Setpoint) × BodyAt b (place_in b k) s
+  pub five : (k : ℕ) → k < 4 * n → version_in b k ≢ 0 → length_in b k ≡ 5
+  pub behind : (k : ℕ) → k < 4 * n → version_in b k ≢ 0 → 32 * n ≤ place_in b k
+  pub within : (k : ℕ) → k < 4 * n → version_in b k ≢ 0 → place_in b k + 5 ≤ length b
+  pub means : (k : ℕ) → k < 4 * n → version_in b k ≢ 0 → (s : Setpoint) × BodyAt b (place_in b k) s
   -- no two bodies overlap
-  pub apart : (k l : ℕ) → k < 4 * n → l < 4 * n → k ≢ l → version_in_lem b k ≢ 0 → version_in_lem b l ≢ 0
+  pub apart : (k l : ℕ) → k < 4 * n → l < 4 * n → k ≢ l → version_in b k ≢ 0 → version_in b l ≢ 0
       → (place_in b k + 5 ≤ place_in b l) ⊎ (place_in b l + 5 ≤ place_in b k)
 
 -- ---- what stays: "Writing drops the slot's oldest of four before it looks for room"
@@ -93,7 +93,7 @@ pub record Undamaged (n : ℕ) (b : List ℕ) : Type 0 where
 -- line k is used, and is not that of the slot's oldest of four
 pub record Stays (n : ℕ) (b : List ℕ) (slot k : ℕ) : Type 0 where
   pub inside : k < 4 * n
-  pub is_used : version_in_lem b k ≢ 0
+  pub is_used : version_in b k ≢ 0
   pub not_dropped : k ≢ 4 * slot + 3
 
 -- the same, to be counted: `differ` is 1 where two numbers differ and else 0, `less` is 1 where the first is less, `stays` is 1 where line k stays
@@ -104,7 +104,7 @@ unfoldable pub less : ℕ → ℕ → ℕ
 less a b = min 1 (b - a)
 
 unfoldable pub stays : (book : List ℕ) (slot line : ℕ) → ℕ
-stays b slot k = differ (version_in_lem b k) 0 * differ k (4 * slot + 3)
+stays b slot k = differ (version_in b k) 0 * differ k (4 * slot + 3)
 
 unfoldable pub sum : (m : ℕ) → (ℕ → ℕ) → ℕ
 sum zero f = 0
@@ -162,15 +162,15 @@ pub record Left (n : ℕ) (b c : List ℕ) (slot : ℕ) (s : Setpoint) (to : ℕ
   pub new_version_high : (byte c (32 * slot + 6) ≡ (newest b slot + 1) / 65536 % 256) × (byte c (32 * slot + 7) ≡ (newest b slot + 1) / 16777216)
   -- every other line's length and version as they were; its place too, where it is unused
   pub lines : (k j i : ℕ) → k < 4 * n → Goes slot k j → 2 ≤ i → i < 8 → byte c (8 * j + i) ≡ byte b (8 * k + i)
-  pub unused : (k j i : ℕ) → k < 4 * n → version_in_lem b k ≡ 0 → Goes slot k j → i < 2 → byte c (8 * j + i) ≡ byte b (8 * k + i)
+  pub unused : (k j i : ℕ) → k < 4 * n → version_in b k ≡ 0 → Goes slot k j → i < 2 → byte c (8 * j + i) ≡ byte b (8 * k + i)
   -- the bodies that stay, and the new one
   pub bodies : (k i : ℕ) → Stays n b slot k → i < 5 → byte c (to k + i) ≡ byte b (place_in b k + i)
   pub new_kind : byte c p ≡ kind_of_lem s
   pub new_low : (byte c (p + 1) ≡ number_of_lem s % 256) × (byte c (p + 2) ≡ number_of_lem s / 256 % 256)
   pub new_high : (byte c (p + 3) ≡ number_of_lem s / 65536 % 256) × (byte c (p + 4) ≡ number_of_lem s / 16777216)
   -- "Vacated bytes become zeros": those of a body that no body has now. Those of no body, before and now, are as they were
-  pub vacated : (i : ℕ) → NoBodyNow n b slot to p i → (k : ℕ) → k < 4 * n → version_in_lem b k ≢ 0 → InBody (place_in b k) i → ◌≡◌ {A = ℕ} (byte c i) 0
-  pub untouched : (i : ℕ) → NoBodyNow n b slot to p i → ((k : ℕ) → k < 4 * n → version_in_lem b k ≢ 0 → InBody (place_in b k) i → ⊥) → byte c i ≡ byte b i
+  pub vacated : (i : ℕ) → NoBodyNow n b slot to p i → (k : ℕ) → k < 4 * n → version_in b k ≢ 0 → InBody (place_in b k) i → ◌≡◌ {A = ℕ} (byte c i) 0
+  pub untouched : (i : ℕ) → NoBodyNow n b slot to p i → ((k : ℕ) → k < 4 * n → version_in b k ≢ 0 → InBody (place_in b k) i → ⊥) → byte c i ≡ byte b i
 
 -- the places that the lines of the bodies that stay say: as they were, or after a slide each its new one
 abbrev pub SamePlaces : (n : ℕ) (b c : List ℕ) (slot : ℕ) → Type 0

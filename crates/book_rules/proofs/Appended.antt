@@ -7,7 +7,8 @@ use Rattle.std.proofs.Math.ListN.{get_or-append}
 use Rattle.std.proofs.lemmas.List.Edits.{sets}
 use Rattle.std.proofs.Math.Seq.{length-sets}
 use Rattle.setpoint.specs.Codec.{has_body, kind_of, word_of, bytes_of, body_of, join_of}
-use Rattle.setpoint.proofs.RoundTrip.{Held, join_low, read_back}
+use Rattle.setpoint.specs.RoundTrip.{Held}
+use Rattle.setpoint.proofs.RoundTrip.{join_low, read_back}
 use Rattle.setpoint.specs.declared.Setpoint.{Setpoint}
 use Rattle.setpoint.specs.declared.Decoded.TheVariants as decoded
 use Rattle.book_rules.specs.Layout.{five_at, line_at, line_of, lines_of, front_of, place_at, length_at, version_at, setting_at, is_setting}
@@ -17,10 +18,7 @@ use Rattle.book_rules.specs.Many.{Beside}
 use Rattle.book_rules.specs.Sound.{Kept, Apart, Fits, Clean, Alike}
 use Rattle.book_rules.proofs.Sound.{line_alike, five_alike, setting_alike}
 use Rattle.book_rules.proofs.Slid.{join_pair}
-
--- where a line of the book stands after a write on the slot: its own lines are one further down
-abbrev pub goes_of : ℕ → ℕ → ℕ
-goes_of slot k = if eqb (k / 4) slot then k + 1 else k
+use Rattle.book_rules.specs.Appended.{goes_of, Came, is_new, is_own, is_other}
 
 pub goes_own : (slot k : ℕ) → 4 * slot ≤ k → k < 4 * slot + 4 → goes_of slot k ≡ k + 1
 goes_own slot k u v = rw (eq-eqb (k / 4) slot (omega arith))
@@ -28,12 +26,6 @@ goes_own slot k u v = rw (eq-eqb (k / 4) slot (omega arith))
 pub goes_other : (slot k : ℕ) → (k < 4 * slot) ⊎ (4 * slot + 4 ≤ k) → goes_of slot k ≡ k
 goes_other slot k (inl u) = let d : k / 4 ≡ slot → ⊥ = (λ e. omega arith) in rw (ne_eqb (k / 4) slot d)
 goes_other slot k (inr u) = let d : k / 4 ≡ slot → ⊥ = (λ e. omega arith) in rw (ne_eqb (k / 4) slot d)
-
--- a line after a write is the slot's newest, or it came from a line before
-pub data Came (slot k : ℕ) : Type 0 where
-  is_new : k ≡ 4 * slot → Came slot k
-  is_own : (l : ℕ) → 4 * slot ≤ l → l < 4 * slot + 3 → k ≡ l + 1 → Came slot k
-  is_other : (k < 4 * slot) ⊎ (4 * slot + 4 ≤ k) → Came slot k
 
 pub came : (slot k : ℕ) → Came slot k
 came slot k = go (dec_lt k (4 * slot)) (ℕ_discrete k (4 * slot)) (dec_lt k (4 * slot + 4))

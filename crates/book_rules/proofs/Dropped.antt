@@ -13,15 +13,7 @@ use Rattle.book_rules.specs.Writing.{drop_oldest_of}
 use Rattle.book_rules.specs.Many.{Beside}
 use Rattle.book_rules.specs.Sound.{Kept, Apart, Fits, Clean, Alike}
 use Rattle.book_rules.proofs.Sound.{is_kept_lem, is_unkept, line_alike, line_zero, five_alike, setting_alike}
-
--- b before, c after; the slot's last line
-pub record Dropped (n : ℕ) (b c : List ℕ) (slot : ℕ) : Type 0 where
-  pub long : length c ≡ length b
-  pub gone : version_at c (4 * slot + 3) ≡ 0
-  pub lines : (k : ℕ) → k < lines_of n → k ≢ 4 * slot + 3 → Alike c b k k
-  pub bodies : (k : ℕ) → k < lines_of n → k ≢ 4 * slot + 3 → Kept b k → five_at c (place_at b k) ≡ five_at b (place_at b k)
-  pub fits : Fits n c
-  pub clean : Clean n b → Clean n c
+use Rattle.book_rules.specs.Dropped.{Dropped}
 
 module _ (n : ℕ) (b : List ℕ) (slot : ℕ) (inside : slot < n) (f : Fits n b) where
   abbrev x : ℕ

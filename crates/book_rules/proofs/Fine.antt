@@ -1,4 +1,5 @@
 -- Lists of the book's rules: how `first_fault` goes on, and what it means that all is fine.
+-- ---- one rule behind the other
 use Rattle.std.specs.Prelude.{ℕ, ◌*◌, ◌≤◌, ◌<◌, ◌≡◌, refl, List, [], ◌∷◌, ◌++◌, Bool, true, false, ◌&&◌, ltb, leb, eqb, length, if◌then◌else◌}
 use Rattle.std.proofs.Common.{sym, leb-false, ltb-false, eqb-true, eq-eqb, le-ltb}
 use Rattle.std.proofs.lemmas.Bool.{not-false, lt-leb}
@@ -12,12 +13,7 @@ use Rattle.book_rules.specs.Layout.{slots_of, front_of, is_sound}
 use Rattle.book_rules.specs.Rules.{BookRule, first_fault, is_bad_book, is_bad_slot, is_holder, claim_rules, open_rules}
 use Rattle.book_rules.specs.declared.BookCheck.{BookCheck}
 use Rattle.book_rules.specs.declared.BookCheck.TheVariants.{Fine, Fault}
-
--- ---- one rule behind the other
-
-abbrev pub or_then : BookCheck → BookCheck → BookCheck
-or_then Fine d = d
-or_then (Fault r) d = Fault r
+use Rattle.book_rules.specs.Fine.{or_then, BookFine, SlotFine, ClaimFine, OpenFine}
 
 pub faults_append : (xs ys : List BookRule) → first_fault (xs ++ ys) ≡ or_then (first_fault xs) (first_fault ys)
 unfolding first_fault
@@ -52,17 +48,6 @@ pub shape_head : (h : Head) (words : ℕ) → shape_fits h words ≡ true → he
 unfolding shape_fits
 shape_head h words e = (both (head_fits h) (eqb words (3 * cells_of h)) e).0
 
--- ---- what a call knows once its checks are fine
-
-pub record BookFine (n size : ℕ) : Type 0 where
-  pub room : front_of n ≤ size
-  pub limit : size ≤ 32768
-
-pub record SlotFine (n size slot : ℕ) : Type 0 where
-  pub room : front_of n ≤ size
-  pub limit : size ≤ 32768
-  pub inside : slot < n
-
 pub book_fine : (n size : ℕ) → is_bad_book n size ≡ false → BookFine n size
 unfolding is_bad_book
 book_fine n size e =
@@ -81,14 +66,6 @@ pub fine_slot : (n size slot : ℕ) → SlotFine n size slot → is_bad_slot n s
 unfolding is_bad_slot is_bad_book
 fine_slot n size slot f = rw (le-ltb size (front_of n) f.room, le-ltb 32768 size f.limit, lt-leb n slot f.inside)
 
-pub record ClaimFine (h : Head) (t : List ℕ) (size slot : ℕ) (l : Lease) (s : Setpoint) : Type 0 where
-  pub shape : shape_fits h (length t) ≡ true
-  pub slot_is : SlotFine (slots_of h) size slot
-  pub fresh : is_stale h l ≡ false
-  pub live : is_live h.next (cells_of h) t (hold_in l) ≡ true
-  pub own : l.cell ≡ slot
-  pub whole : has_body s ≡ true
-
 pub claim_fine : (h : Head) (t : List ℕ) (size slot : ℕ) (l : Lease) (s : Setpoint) → first_fault (claim_rules h t size slot l s) ≡ Fine → ClaimFine h t size slot l s
 unfolding claim_rules is_holder
 claim_fine h t size slot l s e =
@@ -104,12 +81,6 @@ pub fine_claim : (h : Head) (t : List ℕ) (size slot : ℕ) (l : Lease) (s : Se
 unfolding claim_rules is_holder first_fault
 fine_claim h t size slot l s c =
     rw (c.shape, fine_slot (slots_of h) size slot c.slot_is, c.fresh, c.live, eq-eqb l.cell slot c.own, c.whole)
-
--- a read, before the version is looked for
-pub record OpenFine (h : Head) (b : List ℕ) (slot : ℕ) : Type 0 where
-  pub head_fits_lem : head_fits h ≡ true
-  pub slot_is : SlotFine (slots_of h) (length b) slot
-  pub sound : is_sound (slots_of h) b ≡ true
 
 pub open_fine : (h : Head) (b : List ℕ) (slot : ℕ) → first_fault (open_rules h b slot) ≡ Fine → OpenFine h b slot
 unfolding open_rules

@@ -1,4 +1,5 @@
 -- What comes of each call, as cases with the facts of each.
+-- ---- preparing
 use Rattle.std.specs.Prelude.{ℕ, ◌+◌, ◌*◌, ◌-◌, ◌≤◌, ◌<◌, ◌≢◌, List, Bool, ◌||◌, ltb, leb, eqb, length, replicate, if◌then◌else◌}
 use Rattle.std.proofs.Math.Path.{◌≡◌, refl, sym}
 use Rattle.std.proofs.Common.{ap, ◌∙◌, arith, ltb-false, leb-false, eqb-true, ne_eqb, le-ltb}
@@ -10,7 +11,8 @@ use Rattle.model.specs.Arena.{head_fits, shape_fits, is_stale, hold_in}
 use Rattle.types.specs.declared.Head.{Head}
 use Rattle.types.specs.declared.Lease.{Lease}
 use Rattle.setpoint.specs.Codec.{has_body, decode_of}
-use Rattle.setpoint.proofs.RoundTrip.{whole_in, setting_whole}
+use Rattle.setpoint.specs.RoundTrip.{whole_in}
+use Rattle.setpoint.proofs.RoundTrip.{setting_whole}
 use Rattle.setpoint.specs.declared.Decoded.{Decoded}
 use Rattle.setpoint.specs.declared.Decoded.TheVariants as decoded
 use Rattle.setpoint.specs.declared.Setpoint.{Setpoint}
@@ -18,7 +20,8 @@ use Rattle.book_rules.specs.Layout.{slots_of, place_at, newest_at, setting_at, i
 use Rattle.book_rules.specs.Writing.{drop_oldest_of, is_full, put_of}
 use Rattle.book_rules.specs.Rules.{first_fault, judge_book, is_bad_book, is_bad_slot, is_holder, is_gone, last_version, book_rules, claim_rules, over_rules, open_rules, kept_rules, read_rules}
 use Rattle.book_rules.specs.Calls.{prepare_book_of, written_of, write_setpoint_of, read_as, line_read, read_version_of}
-use Rattle.book_rules.proofs.Fine.{BookFine, book_fine, SlotFine, fine_slot, ClaimFine, claim_fine, fine_claim, OpenFine, fine_open, or_then, faults_append}
+use Rattle.book_rules.specs.Fine.{BookFine, SlotFine, ClaimFine, OpenFine, or_then}
+use Rattle.book_rules.proofs.Fine.{book_fine, fine_slot, claim_fine, fine_claim, fine_open, faults_append}
 use Rattle.book_rules.specs.declared.BookAnswer.{BookAnswer}
 use Rattle.book_rules.specs.declared.BookAnswer.TheVariants.{Done, Written, Setting, Refused}
 use Rattle.book_rules.specs.declared.BookCheck.{BookCheck}
@@ -26,12 +29,7 @@ use Rattle.book_rules.specs.declared.BookCheck.TheVariants.{Fine, Fault}
 use Rattle.book_rules.specs.declared.BookRefusal.{BookRefusal}
 use Rattle.book_rules.specs.declared.BookRefusal.TheVariants.{BadShape, BadSlot, StaleBoot, NotHeld, NotFinite, DamagedBook, VersionsSpent, BookFull, NeverWritten}
 use Rattle.book_rules.specs.Outcomes.{body_read}
-
--- ---- preparing
-
-pub data Prepared (h : Head) (b : List ℕ) : BookAnswer × List ℕ → Type 0 where
-  was_prepared : head_fits h ≡ true → BookFine (slots_of h) (length b) → Prepared h b (Done, replicate (length b) 0)
-  not_prepared : (r : BookRefusal) → Prepared h b (Refused r, b)
+use Rattle.book_rules.specs.Outcomes.{Prepared, Claim, is_given, fault_of, Keeps, was_prepared, not_prepared}
 
 pub preparing_is : (h : Head) (b : List ℕ) → Prepared h b (prepare_book_of h b)
 unfolding prepare_book_of book_rules first_fault
@@ -54,30 +52,6 @@ prepare_alike h b c e = go (first_fault (book_rules h (length b))) ∙ ap (λ (m
     go : (x : BookCheck) → answered x b ≡ answered x c
     go Fine = refl
     go (Fault r) = refl
-
--- ---- writing
-
--- all but the room: what is tested before BookFull
-pub record Claim (h : Head) (t b : List ℕ) (slot : ℕ) (l : Lease) (s : Setpoint) : Type 0 where
-  pub given : ClaimFine h t (length b) slot l s
-  pub sound : is_sound (slots_of h) b ≡ true
-  pub remains : newest_at b slot ≢ last_version
-
--- which refusals go by what a write is given alone
-abbrev is_given : BookRefusal → Bool
-is_given BadShape = true
-is_given BadSlot = true
-is_given StaleBoot = true
-is_given NotHeld = true
-is_given NotFinite = true
-is_given DamagedBook = false
-is_given VersionsSpent = false
-is_given BookFull = false
-is_given NeverWritten = false
-
-abbrev fault_of : BookCheck → BookRefusal
-fault_of Fine = BookFull
-fault_of (Fault r) = r
 
 module _ (h : Head) (t b : List ℕ) (slot : ℕ) (l : Lease) (s : Setpoint) where
   abbrev n : ℕ
@@ -139,12 +113,6 @@ module _ (h : Head) (t b : List ℕ) (slot : ℕ) (l : Lease) (s : Setpoint) whe
           → Outcome (judge_book (or_then x (first_fault (over_rules n b slot))) (λ r. (Refused r, b)) (written_of (newest_at b slot + 1) (put_of n b slot s (newest_at b slot + 1))))
       go Fine e = by_book (claim_fine h t (length b) slot l s e)
       go (Fault r) e = given_refused r e
-
--- ---- reading
-
--- a version that a slot with this newest one keeps: "the newest four settings"
-abbrev pub Keeps : ℕ → ℕ → Type 0
-Keeps newest w = (1 ≤ w) × (w ≤ newest) × (newest < w + 4)
 
 pub kept_or : (newest w : ℕ) → Dec (Keeps newest w)
 kept_or newest w = go (dec_lt w 1) (dec_lt newest w) (dec_lt newest (w + 4))

@@ -13,10 +13,12 @@ use Rattle.book_rules.specs.Layout.{slots_of, lines_of, front_of, place_at, vers
 use Rattle.book_rules.specs.Calls.{read_as, line_read, read_version_of}
 use Rattle.book_rules.specs.Sound.{Kept, Sound, Clean}
 use Rattle.book_rules.proofs.Sound.{is_sound_lem, line_zero, setting_alike}
-use Rattle.book_rules.proofs.Appended.{goes_of, goes_own, goes_other}
+use Rattle.book_rules.specs.Appended.{goes_of}
+use Rattle.book_rules.proofs.Appended.{goes_own, goes_other}
 use Rattle.book_rules.proofs.Wrote.{Wrote}
-use Rattle.book_rules.proofs.Outcomes.{Keeps, kept_or, read_kept, read_lost}
-use Rattle.book_rules.proofs.Fine.{SlotFine}
+use Rattle.book_rules.specs.Outcomes.{Keeps}
+use Rattle.book_rules.proofs.Outcomes.{kept_or, read_kept, read_lost}
+use Rattle.book_rules.specs.Fine.{SlotFine}
 use Rattle.book_rules.specs.declared.BookAnswer.TheVariants.{Setting, Refused}
 use Rattle.book_rules.specs.declared.BookRefusal.TheVariants.{NeverWritten}
 

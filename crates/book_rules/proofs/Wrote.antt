@@ -8,7 +8,7 @@ use Rattle.std.proofs.Math.ListN.{length}
 use borrow.Author.Tests.{ltb-false, eq-eqb, ne_eqb}
 use Rattle.choice.specs.Pick.{and_false}
 use Rattle.setpoint.specs.Codec.{has_body}
-use Rattle.setpoint.proofs.RoundTrip.{Held}
+use Rattle.setpoint.specs.RoundTrip.{Held}
 use Rattle.setpoint.specs.declared.Setpoint.{Setpoint}
 use Rattle.setpoint.specs.declared.Decoded.TheVariants as decoded
 use Rattle.book_rules.specs.Layout.{five_at, lines_of, front_of, place_at, version_at, is_kept, setting_at}
@@ -16,9 +16,11 @@ use Rattle.book_rules.specs.Writing.{count, most, drop_oldest_of, kept_of, end_o
 use Rattle.book_rules.specs.Many.{count_same, count_none, most_start, most_each}
 use Rattle.book_rules.specs.Sound.{Kept, Falls, Fits, Sound, Clean, Alike}
 use Rattle.book_rules.proofs.Sound.{kept_is, is_kept_lem, unkept_is, is_unkept}
-use Rattle.book_rules.proofs.Dropped.{Dropped, dropped}
+use Rattle.book_rules.specs.Dropped.{Dropped}
+use Rattle.book_rules.proofs.Dropped.{dropped}
 use Rattle.book_rules.proofs.Slid.{Slid, slid}
-use Rattle.book_rules.proofs.Appended.{goes_of, goes_own, goes_other, Came, is_new, is_own, is_other, came, Appended, appended}
+use Rattle.book_rules.specs.Appended.{goes_of, Came, is_new, is_own, is_other}
+use Rattle.book_rules.proofs.Appended.{goes_own, goes_other, came, Appended, appended}
 use Rattle.book_rules.specs.Wrote.{is_staying, staying_of}
 
 pub staying_is : (n : ℕ) (b : List ℕ) (slot : ℕ) → slot < n → Sound n b → kept_of n (drop_oldest_of b slot) ≡ staying_of n b slot

@@ -8,3 +8,6 @@ pub mod Many
 pub mod Sound
 pub mod Wrote
 pub mod Outcomes
+pub mod Appended
+pub mod Dropped
+pub mod Fine

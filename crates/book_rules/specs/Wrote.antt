@@ -8,7 +8,7 @@ use Rattle.std.proofs.Math.ListN.{length}
 use borrow.Author.Tests.{ltb-false, eq-eqb, ne_eqb}
 use Rattle.choice.specs.Pick.{and_false}
 use Rattle.setpoint.specs.Codec.{has_body}
-use Rattle.setpoint.proofs.RoundTrip.{Held}
+use Rattle.setpoint.specs.RoundTrip.{Held}
 use Rattle.setpoint.specs.declared.Setpoint.{Setpoint}
 use Rattle.setpoint.specs.declared.Decoded.TheVariants as decoded
 use Rattle.book_rules.specs.Layout.{five_at, lines_of, front_of, place_at, version_at, is_kept, setting_at}

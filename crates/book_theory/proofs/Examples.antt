@@ -1,5 +1,6 @@
 -- Examples that meet the premises of each theorem, so that none speaks of nothing. By computation, on an arena of one header with two buckets:
 -- two slots, a book of 84 bytes, which has room for four bodies; boot number 6.
+-- ---- a day
 use Rattle.std.specs.Prelude.{ℕ, zero, suc, ◌<◌, ◌≡◌, refl, ◌≢◌, ◌↔◌, List, [], ◌∷◌, ◌++◌, Bool, true, ◌&&◌, ltb, length, get_or, replicate, set, if◌then◌else◌}
 use Rattle.std.proofs.Common.{sym, ap, ◌∙◌, subst, inr, arith, ltb-true}
 use Rattle.std.specs.Float.{binary32}
@@ -22,97 +23,15 @@ use Rattle.book_rules.specs.Writing.{count, most, put_many, drop_oldest_of, kept
 use Rattle.book_rules.specs.Rules.{first_fault, is_bad_book, is_bad_slot, is_holder, is_gone, book_rules, claim_rules, over_rules, open_rules, kept_rules}
 use Rattle.book_rules.specs.Calls.{prepare_book_of, write_setpoint_of, line_read, read_version_of, read_setpoint_of}
 use Rattle.book_rules.specs.Sound.{Sound}
-use Rattle.book_rules.proofs.Outcomes.{Keeps}
+use Rattle.book_rules.specs.Outcomes.{Keeps}
 use Rattle.book_rules.specs.declared.BookAnswer.TheVariants.{Done, Written, Setting, Refused}
 use Rattle.book_rules.specs.declared.BookRefusal.TheVariants.{StaleBoot, NotHeld, DamagedBook, BookFull, NeverWritten}
 use Rattle.history.specs.World.{World, world_of}
-use Rattle.history.specs.Items.{call, try_acquire_lem, drop_lease, preparation, preparation_over, perform, cold, next_item, preparing}
+use Rattle.history.specs.Items.{call, try_acquire, drop_lease, preparation, preparation_over, perform, cold, next_item, preparing}
 use Rattle.book_theory.specs.Items.{BookItem, arena_item, prepare_book, write_setpoint, read_setpoint, read_version, BookEntry, prepared, wrote, was_read, version_read_lem, Shift, shift_of, slots_in, preparing_book, writing, reading, reading_version, next_shift, run_shift, settings, newest_read, version_read, SameSlots, AllTyped}
 use Rattle.book_theory.specs.Statements.{summed, is_moved, ReleasedBetween, Writable, Needed, AsWritten}
 use Rattle.book_theory.proofs.Theorems.{others_read_as_before, new_reads_as_written, oldest_is_dropped, moved_is_summed, full_exactly, done_exactly, reads_exactly, prepared_reads_nothing, reads_last_write, reads_newest_four, never_exactly, forgets_older_bytes, never_damaged, written_by_holder, one_writer, writers_parted, damage_stays}
-
--- ---- a day
-
--- RAM after a cold start, and the arena's preparation over it
-abbrev rubbish : World
-rubbish = world_of (head_of 7 7 7 7) (replicate 6 7) (replicate 1 7)
-
-abbrev boot : BookItem
-boot = arena_item (preparation 1 2 1 6)
-
-abbrev old : List ℕ
-old = replicate 84 9
-
-abbrev fresh : Shift
-fresh = run_shift (shift_of (cold rubbish) old []) (boot ∷ [])
-
-abbrev one_lease : Lease
-one_lease = lease_of 1 1 6
-
-abbrev other_lease : Lease
-other_lease = lease_of 1 2 6
-
--- 1.5 bar
-abbrev bar : Setpoint
-bar = Pressure (of_bits binary32 0x3fc0_0000)
-
--- cell 1 is taken, and slot 1 written
-abbrev morning : List BookItem
-morning = arena_item (call (try_acquire_lem 1)) ∷ write_setpoint 1 one_lease bar ∷ []
-
--- it is given back, and taken by another, who writes too; the first lease writes no more
-abbrev change : List BookItem
-change = arena_item (call (drop_lease one_lease)) ∷ arena_item (call (try_acquire_lem 1)) ∷ write_setpoint 1 one_lease bar ∷ []
-
--- the fourth version fills the book, the fifth slides three bodies
-abbrev evening : List BookItem
-evening = write_setpoint 1 other_lease (Valve true) ∷ write_setpoint 1 other_lease (Speed 4) ∷ []
-
-abbrev late : List BookItem
-late = write_setpoint 1 other_lease (Speed 5) ∷ []
-
--- a refused preparation of the arena, and a done one of other runs, with as many slots
-abbrev night : List BookItem
-night =
-    arena_item (preparation 9 9 9 9) ∷ arena_item (preparation_over 2 1 5 7 (replicate 6 9) (replicate 2 9))
-    ∷ read_setpoint 1 ∷ read_setpoint 0 ∷ read_version 1 2 ∷ read_version 1 1 ∷ []
-
-abbrev till_evening : List BookItem
-till_evening = morning ++ (write_setpoint 1 one_lease (Speed 258) ∷ (change ++ evening))
-
-abbrev day : List BookItem
-day = till_evening ++ (late ++ night)
-
--- the book at the end, byte for byte, and what its calls answered, the newest first
-abbrev at_night : List ℕ
-at_night =
-    replicate 32 0
-    ++ (79 ∷ 0 ∷ 5 ∷ 0 ∷ 5 ∷ 0 ∷ 0 ∷ 0
-    ∷ 74 ∷ 0 ∷ 5 ∷ 0 ∷ 4 ∷ 0 ∷ 0 ∷ 0
-    ∷ 69 ∷ 0 ∷ 5 ∷ 0 ∷ 3 ∷ 0 ∷ 0 ∷ 0
-    ∷ 64 ∷ 0 ∷ 5 ∷ 0 ∷ 2 ∷ 0 ∷ 0 ∷ 0
-    ∷ 2 ∷ 2 ∷ 1 ∷ 0 ∷ 0
-    ∷ 3 ∷ 1 ∷ 0 ∷ 0 ∷ 0
-    ∷ 2 ∷ 4 ∷ 0 ∷ 0 ∷ 0
-    ∷ 2 ∷ 5 ∷ 0 ∷ 0 ∷ 0 ∷ [])
-
-abbrev answers : List BookEntry
-answers =
-    version_read_lem 1 1 (Refused NeverWritten)
-    ∷ version_read_lem 1 2 (Setting (Speed 258) 2)
-    ∷ was_read 0 (Refused NeverWritten)
-    ∷ was_read 1 (Setting (Speed 5) 5)
-    ∷ wrote 1 other_lease (Speed 5) (Written 5 15)
-    ∷ wrote 1 other_lease (Speed 4) (Written 4 0)
-    ∷ wrote 1 other_lease (Valve true) (Written 3 0)
-    ∷ wrote 1 one_lease bar (Refused NotHeld)
-    ∷ wrote 1 one_lease (Speed 258) (Written 2 0)
-    ∷ wrote 1 one_lease bar (Written 1 0)
-    ∷ prepared Done
-    ∷ []
-
-abbrev the_day : Shift
-the_day = shift_of (cold (world_of (head_of 2 1 5 7) (replicate 6 0) (replicate 2 0))) at_night answers
+use Rattle.book_theory.specs.Examples.{rubbish, old, fresh, one_lease, other_lease, bar, change, till_evening, day, at_night, the_day, blots, first_write, the_head, the_table, at_evening, at_limit, torn, all_small, broken, tries}
 
 pub day_is : run_shift fresh (prepare_book ∷ day) ≡ the_day
 unfolding run_shift next_shift next_item preparing perform prepare_of prepare_rules first head_fits shape_fits health_fits try_acquire_of acquire_of drop_lease_of cell_rules lease_rules take_of set_cell bit_at owner_at is_free is_held state_of state_at is_live prepare_book_of book_rules first_fault is_bad_book is_bad_slot is_holder write_setpoint_of claim_rules over_rules read_setpoint_of read_version_of open_rules kept_rules is_gone line_read is_finite is_sound is_falling is_fitting is_apart all place_at length_at version_at is_kept setting_at count most put_many drop_oldest_of kept_of end_of is_crowded is_full rank_of slid_of moved_of erased_of laid_of compact_of append_of put_over_of put_of join_of setting_of decode_of line_at five_at line_of body_of bytes_of of_bits to_bits
@@ -179,19 +98,9 @@ sound_day =
     × ((slot : ℕ) (l : Lease) (p : Setpoint) → (writing v slot l p).0 ≢ Refused DamagedBook)) day_is (never_damaged fresh day book_done same values) in
     (d.0 1, d.2 1 other_lease bar)
 
--- ---- `forgets_older_bytes`: the same day over another book
-
-abbrev blots : List ℕ
-blots = replicate 84 255
-
 pub same_day : run_shift (shift_of fresh.course blots []) (prepare_book ∷ day) ≡ the_day
 unfolding run_shift next_shift next_item preparing perform prepare_of prepare_rules first head_fits shape_fits health_fits try_acquire_of acquire_of drop_lease_of cell_rules lease_rules take_of set_cell bit_at owner_at is_free is_held state_of state_at is_live prepare_book_of book_rules first_fault is_bad_book is_bad_slot is_holder write_setpoint_of claim_rules over_rules read_setpoint_of read_version_of open_rules kept_rules is_gone line_read is_finite is_sound is_falling is_fitting is_apart all place_at length_at version_at is_kept setting_at count most put_many drop_oldest_of kept_of end_of is_crowded is_full rank_of slid_of moved_of erased_of laid_of compact_of append_of put_over_of put_of join_of setting_of decode_of line_at five_at line_of body_of bytes_of of_bits to_bits
 same_day = sym (forgets_older_bytes fresh.course old blots [] day refl book_done) ∙ day_is
-
--- ---- `written_by_holder`, `one_writer`, `writers_parted`
-
-abbrev first_write : Shift
-first_write = run_shift (shift_of (cold rubbish) old []) (boot ∷ (prepare_book ∷ arena_item (call (try_acquire_lem 1)) ∷ []))
 
 pub first_done : (writing first_write 1 one_lease bar).0 ≡ Written 1 0
 unfolding run_shift next_shift next_item preparing perform prepare_of prepare_rules first head_fits shape_fits health_fits try_acquire_of acquire_of drop_lease_of cell_rules lease_rules take_of set_cell bit_at owner_at is_free is_held state_of state_at is_live prepare_book_of book_rules first_fault is_bad_book is_bad_slot is_holder write_setpoint_of claim_rules over_rules read_setpoint_of read_version_of open_rules kept_rules is_gone line_read is_finite is_sound is_falling is_fitting is_apart all place_at length_at version_at is_kept setting_at count most put_many drop_oldest_of kept_of end_of is_crowded is_full rank_of slid_of moved_of erased_of laid_of compact_of append_of put_over_of put_of join_of setting_of decode_of line_at five_at line_of body_of bytes_of of_bits to_bits
@@ -217,29 +126,8 @@ differ_leases e = let z : ◌≡◌ {A = ℕ} 1 2 = ap (λ (l : Lease). l.serial
 
 pub given_back_between : ReleasedBetween first_write.course (run_shift first_write (write_setpoint 1 one_lease bar ∷ change)).course (hold_in one_lease)
 given_back_between =
-    writers_parted rubbish old (preparation 1 2 1 6) (prepare_book ∷ arena_item (call (try_acquire_lem 1)) ∷ []) change 1 one_lease other_lease bar (Valve true) 1 2 0 0
+    writers_parted rubbish old (preparation 1 2 1 6) (prepare_book ∷ arena_item (call (try_acquire 1)) ∷ []) change 1 one_lease other_lease bar (Valve true) 1 2 0 0
     boot_done first_done second_done differ_leases (λ z. z, (λ z. z, (tt, tt)))
-
--- ---- the write that slides: three bodies, 15 bytes
-
-abbrev the_head : Head
-the_head = head_of 1 2 3 6
-
-abbrev the_table : List ℕ
-the_table = 0 ∷ 0 ∷ 0 ∷ 1 ∷ 2 ∷ 0 ∷ []
-
--- the book before it
-abbrev at_evening : List ℕ
-at_evening =
-    replicate 32 0
-    ++ (79 ∷ 0 ∷ 5 ∷ 0 ∷ 4 ∷ 0 ∷ 0 ∷ 0
-    ∷ 74 ∷ 0 ∷ 5 ∷ 0 ∷ 3 ∷ 0 ∷ 0 ∷ 0
-    ∷ 69 ∷ 0 ∷ 5 ∷ 0 ∷ 2 ∷ 0 ∷ 0 ∷ 0
-    ∷ 64 ∷ 0 ∷ 5 ∷ 0 ∷ 1 ∷ 0 ∷ 0 ∷ 0
-    ∷ 1 ∷ 0 ∷ 0 ∷ 192 ∷ 63
-    ∷ 2 ∷ 2 ∷ 1 ∷ 0 ∷ 0
-    ∷ 3 ∷ 1 ∷ 0 ∷ 0 ∷ 0
-    ∷ 2 ∷ 4 ∷ 0 ∷ 0 ∷ 0 ∷ [])
 
 pub evening_is : (run_shift fresh (prepare_book ∷ till_evening)).book ≡ at_evening
 unfolding run_shift next_shift next_item preparing perform prepare_of prepare_rules first head_fits shape_fits health_fits try_acquire_of acquire_of drop_lease_of cell_rules lease_rules take_of set_cell bit_at owner_at is_free is_held state_of state_at is_live prepare_book_of book_rules first_fault is_bad_book is_bad_slot is_holder write_setpoint_of claim_rules over_rules read_setpoint_of read_version_of open_rules kept_rules is_gone line_read is_finite is_sound is_falling is_fitting is_apart all place_at length_at version_at is_kept setting_at count most put_many drop_oldest_of kept_of end_of is_crowded is_full rank_of slid_of moved_of erased_of laid_of compact_of append_of put_over_of put_of join_of setting_of decode_of line_at five_at line_of body_of bytes_of of_bits to_bits
@@ -274,34 +162,12 @@ three_lengths =
 pub was_writable : Writable the_head the_table at_evening 1 other_lease (Speed 5)
 was_writable = ((done_exactly the_head the_table at_evening 1 other_lease (Speed 5)).0 (5, 15, slid_done)).0
 
-abbrev at_limit : List ℕ
-at_limit =
-    replicate 32 0
-    ++ (74 ∷ 0 ∷ 5 ∷ 0 ∷ 3 ∷ 0 ∷ 0 ∷ 0
-    ∷ 69 ∷ 0 ∷ 5 ∷ 0 ∷ 2 ∷ 0 ∷ 0 ∷ 0
-    ∷ 64 ∷ 0 ∷ 5 ∷ 0 ∷ 1 ∷ 0 ∷ 0 ∷ 0
-    ∷ 0 ∷ 0 ∷ 0 ∷ 0 ∷ 0 ∷ 0 ∷ 0 ∷ 0
-    ∷ 2 ∷ 1 ∷ 0 ∷ 0 ∷ 0
-    ∷ 2 ∷ 2 ∷ 0 ∷ 0 ∷ 0
-    ∷ 2 ∷ 3 ∷ 0 ∷ 0 ∷ 0 ∷ [])
-
 pub too_full : write_setpoint_of the_head the_table at_limit 1 other_lease (Speed 4) ≡ (Refused BookFull, at_limit)
 unfolding run_shift next_shift next_item preparing perform prepare_of prepare_rules first head_fits shape_fits health_fits try_acquire_of acquire_of drop_lease_of cell_rules lease_rules take_of set_cell bit_at owner_at is_free is_held state_of state_at is_live prepare_book_of book_rules first_fault is_bad_book is_bad_slot is_holder write_setpoint_of claim_rules over_rules read_setpoint_of read_version_of open_rules kept_rules is_gone line_read is_finite is_sound is_falling is_fitting is_apart all place_at length_at version_at is_kept setting_at count most put_many drop_oldest_of kept_of end_of is_crowded is_full rank_of slid_of moved_of erased_of laid_of compact_of append_of put_over_of put_of join_of setting_of decode_of line_at five_at line_of body_of bytes_of of_bits to_bits
 too_full = refl
 
 pub leaves_too_few : length at_limit < Needed the_head at_limit 1
 leaves_too_few = ((full_exactly the_head the_table at_limit 1 other_lease (Speed 4)).0 too_full).1
-
--- ---- `reads_exactly`: the three answers, each by the book's bytes
-
--- a byte of slot 0's newest line is changed: every read is DamagedBook
-abbrev torn : List ℕ
-torn = set at_night 0 1
-
--- a book of bytes
-abbrev all_small : List ℕ → Bool
-all_small [] = true
-all_small (x ∷ xs) = ltb x 256 && all_small xs
 
 small : (l : List ℕ) → all_small l ≡ true → (j : ℕ) → get_or l j 0 < 256
 small [] e j = omega arith
@@ -315,14 +181,6 @@ three_answers = (
   ((reads_exactly the_head at_night 0 1 (small at_night refl) refl refl).1.0 refl).1,
   (reads_exactly the_head torn 1 3 (small torn refl) refl refl).2.0 refl,
 )
-
--- ---- `damage_stays`: a write and a read of the torn book, of the other slot too
-
-abbrev broken : Shift
-broken = shift_of (cold (world_of the_head the_table (replicate 1 0))) torn []
-
-abbrev tries : List BookItem
-tries = write_setpoint 1 other_lease (Speed 9) ∷ read_version 1 3 ∷ []
 
 tries_slots : SameSlots 2 broken tries
 unfolding run_shift next_shift next_item preparing perform prepare_of prepare_rules first head_fits shape_fits health_fits try_acquire_of acquire_of drop_lease_of cell_rules lease_rules take_of set_cell bit_at owner_at is_free is_held state_of state_at is_live prepare_book_of book_rules first_fault is_bad_book is_bad_slot is_holder write_setpoint_of claim_rules over_rules read_setpoint_of read_version_of open_rules kept_rules is_gone line_read is_finite is_sound is_falling is_fitting is_apart all place_at length_at version_at is_kept setting_at count most put_many drop_oldest_of kept_of end_of is_crowded is_full rank_of slid_of moved_of erased_of laid_of compact_of append_of put_over_of put_of join_of setting_of decode_of line_at five_at line_of body_of bytes_of of_bits to_bits

@@ -1,5 +1,6 @@
 -- Over a run of items, from a done preparation of the book: what each version of each slot says is what its done write put there, and what holds of
 -- the bytes.
+-- ---- what the settings of a slot tell
 use Rattle.std.specs.Prelude.{ℕ, suc, ◌+◌, ◌*◌, ◌-◌, ◌≤◌, ◌<◌, ◌%◌, ◌≡◌, refl, ◌≢◌, ◌⊎◌, ◌↔◌, List, [], ◌∷◌, Bool, true, false, eqb, length, get_or, replicate, if◌then◌else◌}
 use Rattle.std.proofs.Common.{sym, ◌∙◌, subst, inl, inr, arith, eq-eqb, ne_eqb}
 use Rattle.std.proofs.Math.Path.{ap}
@@ -9,7 +10,7 @@ use Rattle.choice.specs.Pick.{false_not}
 use Rattle.model.specs.Arena.{head_fits}
 use Rattle.types.specs.declared.Head.{Head}
 use Rattle.types.specs.declared.Lease.{Lease}
-use Rattle.setpoint.proofs.RoundTrip.{Held}
+use Rattle.setpoint.specs.RoundTrip.{Held}
 use Rattle.setpoint.specs.declared.Setpoint.{Setpoint}
 use Rattle.setpoint.specs.declared.Setpoint.TheVariants.{Speed}
 use Rattle.book_rules.specs.Layout.{slots_of, lines_of, front_of, place_at, version_at, newest_at, is_sound}
@@ -18,20 +19,22 @@ use Rattle.book_rules.specs.Rules.{first_fault, is_bad_slot, open_rules, kept_ru
 use Rattle.book_rules.specs.Calls.{write_setpoint_of, read_version_of, read_setpoint_of}
 use Rattle.book_rules.specs.Sound.{Kept, Apart, Sound, Clean}
 use Rattle.book_rules.proofs.Sound.{sound_is, is_sound_lem}
-use Rattle.book_rules.proofs.Appended.{goes_of, goes_own, goes_other}
+use Rattle.book_rules.specs.Appended.{goes_of}
+use Rattle.book_rules.proofs.Appended.{goes_own, goes_other}
 use Rattle.book_rules.proofs.Wrote.{Wrote, put_wrote}
-use Rattle.book_rules.proofs.Fine.{SlotFine, slot_fine, BookFine}
-use Rattle.book_rules.proofs.Outcomes.{Prepared, was_prepared, not_prepared, preparing_is, prepare_alike, Outcome, done, full, refused, writing_is, Keeps, kept_or, read_kept, read_lost}
+use Rattle.book_rules.specs.Fine.{SlotFine, BookFine}
+use Rattle.book_rules.proofs.Fine.{slot_fine}
+use Rattle.book_rules.specs.Outcomes.{Prepared, was_prepared, not_prepared, Keeps}
+use Rattle.book_rules.proofs.Outcomes.{preparing_is, prepare_alike, Outcome, done, full, refused, writing_is, kept_or, read_kept, read_lost}
 use Rattle.book_rules.proofs.Readings.{kept_tells, other_reads, own_reads, new_reads, dropped_reads, newest_other, version_zero, prepared_sound, prepared_clean}
 use Rattle.book_rules.specs.declared.BookAnswer.{BookAnswer}
 use Rattle.book_rules.specs.declared.BookAnswer.TheVariants.{Done, Written, Setting, Refused}
 use Rattle.book_rules.specs.declared.BookRefusal.TheVariants.{BadShape, BadSlot, DamagedBook, NeverWritten}
-use Rattle.book_theory.specs.Items.{BookItem, arena_item, prepare_book, write_setpoint, read_setpoint, read_version, BookEntry, prepared, wrote, was_read, version_read_lem, Shift, shift_of, world_of_lem, head_of_lem, slots_in, preparing_book, writing, reading, reading_version, next_shift, run_shift, settings_after, settings, newest_read, version_read, SameSlots, Typed, AllTyped}
+use Rattle.book_theory.specs.Items.{BookItem, arena_item, prepare_book, write_setpoint, read_setpoint, read_version, BookEntry, prepared, wrote, was_read, version_read_lem, Shift, shift_of, world_of, head_of_lem, slots_in, preparing_book, writing, reading, reading_version, next_shift, run_shift, settings_after, settings, newest_read, version_read, SameSlots, Typed, AllTyped}
 use Rattle.book_theory.specs.Statements.{PreparedReadsNothing, ForgetsOlderBytes, FromPrepared, ReadsLastWrite, ReadsNewestFour, NeverExactly, NeverDamaged, NeverOverlap, FreeAreZeros, NewerLieBehind, UntouchedOtherwise, Unprepared, DamageStays}
 use Rattle.book_theory.specs.Heads.{item_fits}
 use Rattle.book_theory.specs.After.{refusal_in}
-
--- ---- what the settings of a slot tell
+use Rattle.book_theory.specs.Runs.{Keeping, added, Holding}
 
 version_kept : (ss : List Setpoint) (w : ℕ) → Keeps (length ss) w → version_read ss w ≡ Setting (get_or ss (length ss - w) (Speed 0)) w
 unfolding version_read
@@ -76,17 +79,6 @@ version_newest (p ∷ ps) =
     version_kept (p ∷ ps) (length (p ∷ ps)) (omega arith, omega arith, omega arith)
     ∙ ap (λ (i : ℕ). Setting (get_or (p ∷ ps) i (Speed 0)) (length (p ∷ ps))) e
 
--- ---- what holds of a book of n slots with these settings
-
-pub record Keeping (n : ℕ) (b : List ℕ) (f : ℕ → List Setpoint) : Type 0 where
-  pub sound : Sound n b
-  pub clean : Clean n b
-  pub room : front_of n ≤ length b
-  pub limit : length b ≤ 32768
-  pub newest : (slot : ℕ) → slot < n → newest_at b slot ≡ length (f slot)
-  pub says : (h : Head) (slot w : ℕ) → head_fits h ≡ true → slots_of h ≡ n → slot < n → read_version_of h b slot w ≡ version_read (f slot) w
-  pub newer : (slot i j : ℕ) → slot < n → i < j → j < 4 → Kept b (4 * slot + j) → place_at b (4 * slot + j) + 5 ≤ place_at b (4 * slot + i)
-
 -- a done preparation begins it
 prepared_keeping : (n m : ℕ) → front_of n ≤ m → m ≤ 32768 → Keeping n (replicate m 0) (λ t. [])
 prepared_keeping n m l u =
@@ -103,10 +95,6 @@ prepared_keeping n m l u =
           ∙ sym (version_lost [] w (λ q. omega (arith, q.0, q.1)));
       newer = λ slot i j h l u q. absurd (omega (arith, version_zero m (4 * slot + j)));
     }
-
--- a done write goes on with it: one setting more of its slot
-abbrev added : (ℕ → List Setpoint) → ℕ → Setpoint → ℕ → List Setpoint
-added f slot s t = if eqb slot t then s ∷ f t else f t
 
 module _ (n : ℕ) (b : List ℕ) (f : ℕ → List Setpoint) (g : Keeping n b f) (slot : ℕ) (s : Setpoint) (c : List ℕ) (moved : ℕ) (inside : slot < n)
     (r : Wrote n b c slot s moved) where
@@ -208,13 +196,6 @@ module _ (n : ℕ) (b : List ℕ) (f : ℕ → List Setpoint) (g : Keeping n b f
         newer = newer_now;
       }
 
--- ---- the invariant, over what it reads: the head in force, the book, the entries
-
-pub record Holding (n : ℕ) (h : Head) (b : List ℕ) (es : List BookEntry) : Type 0 where
-  pub head_fits_lem : head_fits h ≡ true
-  pub slots_are : slots_of h ≡ n
-  pub book_is : Keeping n b (λ slot. settings slot es)
-
 begun : (h : Head) (b : List ℕ) (es : List BookEntry) → head_fits h ≡ true → BookFine (slots_of h) (length b)
     → Holding (slots_of h) h (replicate (length b) 0) (prepared Done ∷ es)
 unfolding settings
@@ -268,9 +249,9 @@ module _ (n : ℕ) (s : Shift) (k : Holding n (head_of_lem s) s.book s.entries) 
 
   write_holds : (slot : ℕ) (l : Lease) (p : Setpoint) → Held p
       → Holding n (head_of_lem s) (writing s slot l p).1 (wrote slot l p (writing s slot l p).0 ∷ s.entries)
-  write_holds slot l p held = go (writing_is (head_of_lem s) (world_of_lem s).table s.book slot l p)
+  write_holds slot l p held = go (writing_is (head_of_lem s) (world_of s).table s.book slot l p)
     where
-      go : {o : BookAnswer × List ℕ} → Outcome (head_of_lem s) (world_of_lem s).table s.book slot l p o
+      go : {o : BookAnswer × List ℕ} → Outcome (head_of_lem s) (world_of s).table s.book slot l p o
           → Holding n (head_of_lem s) o.1 (wrote slot l p o.0 ∷ s.entries)
       go (done c f) =
           let v = newest_at s.book slot + 1 in
@@ -451,7 +432,7 @@ never_damaged =
     (λ v k. (
       λ slot. newest v k slot,
       λ slot w. sound_reads (head_of_lem v) v.book slot w k.book_is.sound,
-      λ slot l p. sound_writes (head_of_lem v) (world_of_lem v).table v.book slot l p k.book_is.sound,
+      λ slot l p. sound_writes (head_of_lem v) (world_of v).table v.book slot l p k.book_is.sound,
     ))
   where
     newest : (v : Shift) → Holding (slots_in v) (head_of_lem v) v.book v.entries → (slot : ℕ) → reading v slot ≢ Refused DamagedBook
@@ -467,9 +448,9 @@ untouched_otherwise s prepare_book = go (preparing_is (head_of_lem s) s.book)
     go : {o : BookAnswer × List ℕ} → Prepared (head_of_lem s) s.book o → (o.0 ≡ Done) ⊎ (o.1 ≡ s.book)
     go (was_prepared f g) = inl refl
     go (not_prepared r) = inr refl
-untouched_otherwise s (write_setpoint t l p) = go (writing_is (head_of_lem s) (world_of_lem s).table s.book t l p)
+untouched_otherwise s (write_setpoint t l p) = go (writing_is (head_of_lem s) (world_of s).table s.book t l p)
   where
-    go : {o : BookAnswer × List ℕ} → Outcome (head_of_lem s) (world_of_lem s).table s.book t l p o
+    go : {o : BookAnswer × List ℕ} → Outcome (head_of_lem s) (world_of s).table s.book t l p o
         → ((v moved : ℕ) × (o.0 ≡ Written v moved)) ⊎ (o.1 ≡ s.book)
     go (done c f) = inl (_, _, refl)
     go (full c f) = inr refl
@@ -488,9 +469,9 @@ damaged_item s prepare_book d u = go (preparing_is (head_of_lem s) s.book) (u re
     go : {o : BookAnswer × List ℕ} → Prepared (head_of_lem s) s.book o → o.0 ≢ Done → o.1 ≡ s.book
     go (was_prepared f g) n = absurd (n refl)
     go (not_prepared r) n = refl
-damaged_item s (write_setpoint t l p) d u = go (writing_is (head_of_lem s) (world_of_lem s).table s.book t l p)
+damaged_item s (write_setpoint t l p) d u = go (writing_is (head_of_lem s) (world_of s).table s.book t l p)
   where
-    go : {o : BookAnswer × List ℕ} → Outcome (head_of_lem s) (world_of_lem s).table s.book t l p o → o.1 ≡ s.book
+    go : {o : BookAnswer × List ℕ} → Outcome (head_of_lem s) (world_of s).table s.book t l p o → o.1 ≡ s.book
     go (done c f) = absurd (d (sound_is (slots_in s) s.book c.sound))
     go (full c f) = refl
     go (refused r e g c) = refl

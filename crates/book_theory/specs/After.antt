@@ -8,7 +8,7 @@ use Rattle.laws.specs.Shape.{shaped}
 use Rattle.model.specs.Arena.{cells_of, hold_in, head_fits}
 use Rattle.types.specs.declared.Head.{Head}
 use Rattle.types.specs.declared.Lease.{Lease}
-use Rattle.setpoint.proofs.RoundTrip.{Held}
+use Rattle.setpoint.specs.RoundTrip.{Held}
 use Rattle.setpoint.specs.declared.Setpoint.{Setpoint}
 use Rattle.book_rules.specs.Layout.{slots_of, lines_of, front_of, place_at, length_at, newest_at, is_kept}
 use Rattle.book_rules.specs.Writing.{count, drop_oldest_of, kept_of, end_of, is_crowded, is_full, slid_of, moved_of, put_over_of, put_of}
@@ -18,11 +18,12 @@ use Rattle.book_rules.specs.Sound.{Kept, Fits, Sound}
 use Rattle.book_rules.proofs.Sound.{sound_is, is_sound_lem, is_kept_lem}
 use Rattle.book_rules.proofs.Dropped.{dropped}
 use Rattle.book_rules.proofs.Slid.{ends_is}
-use Rattle.book_rules.proofs.Appended.{goes_of}
+use Rattle.book_rules.specs.Appended.{goes_of}
 use Rattle.book_rules.specs.Wrote.{staying_of, is_staying}
 use Rattle.book_rules.proofs.Wrote.{staying_is, Wrote, put_wrote, still_moved}
 use Rattle.book_rules.proofs.Fine.{shape_head}
-use Rattle.book_rules.proofs.Outcomes.{Claim, Outcome, done, full, refused, writing_is}
+use Rattle.book_rules.specs.Outcomes.{Claim}
+use Rattle.book_rules.proofs.Outcomes.{Outcome, done, full, refused, writing_is}
 use Rattle.book_rules.proofs.Readings.{other_reads, own_reads, new_reads, dropped_reads}
 use Rattle.book_rules.specs.declared.BookAnswer.{BookAnswer}
 use Rattle.book_rules.specs.declared.BookAnswer.TheVariants.{Done, Written, Setting, Refused}
@@ -54,15 +55,15 @@ refusal_in (Refused r) = r
 
 -- the facts of one
 record Facts (h : Head) (t b c : List ℕ) (slot : ℕ) (l : Lease) (s : Setpoint) (v moved : ℕ) : Type 0 where
-  claim : Claim h t b slot l s
-  head_fits_lem : head_fits h ≡ true
-  sound : Sound (slots_of h) b
-  version : v ≡ newest_at b slot + 1
-  wrote : Wrote (slots_of h) b c slot s moved
-  room : is_full (slots_of h) (drop_oldest_of b slot) ≡ false
+  pub claim : Claim h t b slot l s
+  pub head_fits_lem : head_fits h ≡ true
+  pub sound : Sound (slots_of h) b
+  pub version : v ≡ newest_at b slot + 1
+  pub wrote : Wrote (slots_of h) b c slot s moved
+  pub room : is_full (slots_of h) (drop_oldest_of b slot) ≡ false
   -- where bodies did not slide, and where they did
-  still : is_crowded (slots_of h) (drop_oldest_of b slot) ≡ false → moved ≡ 0
-  slid : is_crowded (slots_of h) (drop_oldest_of b slot) ≡ true → moved ≡ moved_of (slots_of h) (drop_oldest_of b slot)
+  pub still : is_crowded (slots_of h) (drop_oldest_of b slot) ≡ false → moved ≡ 0
+  pub slid : is_crowded (slots_of h) (drop_oldest_of b slot) ≡ true → moved ≡ moved_of (slots_of h) (drop_oldest_of b slot)
 
 slid_moved : (n : ℕ) (b : List ℕ) (slot : ℕ) (s : Setpoint) (v : ℕ) → is_crowded n (drop_oldest_of b slot) ≡ true → (put_of n b slot s v).0 ≡ moved_of n (drop_oldest_of b slot)
 unfolding put_of put_over_of

@@ -6,17 +6,20 @@ use Rattle.choice.specs.Pick.{false_not}
 use Rattle.model.specs.Arena.{head_fits}
 use Rattle.types.specs.declared.Head.{Head}
 use Rattle.setpoint.specs.Codec.{has_body, body_of, join_of, decode_of}
-use Rattle.setpoint.proofs.RoundTrip.{Held, Means, setting_means, low_join, join_small, read_back}
+use Rattle.setpoint.specs.RoundTrip.{Held, Means}
+use Rattle.setpoint.proofs.RoundTrip.{setting_means, low_join, join_small, read_back}
 use Rattle.setpoint.specs.declared.Decoded.{Decoded}
 use Rattle.setpoint.specs.declared.Decoded.TheVariants as decoded
 use Rattle.setpoint.specs.declared.Setpoint.{Setpoint}
 use Rattle.book_rules.specs.Layout.{slots_of, five_at, place_at, newest_at, setting_at, is_sound}
 use Rattle.book_rules.specs.Rules.{is_bad_slot}
 use Rattle.book_rules.specs.Calls.{read_as, line_read, read_version_of}
-use Rattle.book_rules.proofs.Fine.{SlotFine, slot_fine}
+use Rattle.book_rules.specs.Fine.{SlotFine}
+use Rattle.book_rules.proofs.Fine.{slot_fine}
 use Rattle.book_rules.specs.Sound.{Sound}
 use Rattle.book_rules.proofs.Sound.{sound_is, is_sound_lem}
-use Rattle.book_rules.proofs.Outcomes.{Keeps, kept_or, read_kept, read_lost, read_damaged}
+use Rattle.book_rules.specs.Outcomes.{Keeps}
+use Rattle.book_rules.proofs.Outcomes.{kept_or, read_kept, read_lost, read_damaged}
 use Rattle.book_rules.proofs.Readings.{kept_tells}
 use Rattle.book_rules.specs.declared.BookAnswer.{BookAnswer}
 use Rattle.book_rules.specs.declared.BookAnswer.TheVariants.{Setting, Refused}
@@ -69,7 +72,7 @@ module _ (h : Head) (b : List ℕ) (slot w : ℕ) (bytes : (j : ℕ) → get_or 
 
   data Read : BookAnswer → Type 0 where
     is_kept_lem : Sound n b → Keeps (newest_at b slot) w → Read (line_read b k w)
-    is_lost_lem : Sound n b → (Keeps (newest_at b slot) w → ⊥) → Read (Refused NeverWritten)
+    is_lost : Sound n b → (Keeps (newest_at b slot) w → ⊥) → Read (Refused NeverWritten)
     is_damaged : (Sound n b → ⊥) → Read (Refused DamagedBook)
 
   read_one : Read (read_version_of h b slot w)
@@ -77,7 +80,7 @@ module _ (h : Head) (b : List ℕ) (slot w : ℕ) (bytes : (j : ℕ) → get_or 
     where
       go : (x : Bool) → is_sound n b ≡ x → Dec (Keeps (newest_at b slot) w) → Read (read_version_of h b slot w)
       go true e (yes q) = subst Read (sym (read_kept h b slot fits here w e q)) (is_kept_lem (sound_is n b e) q)
-      go true e (no q) = subst Read (sym (read_lost h b slot fits here w e q)) (is_lost_lem (sound_is n b e) q)
+      go true e (no q) = subst Read (sym (read_lost h b slot fits here w e q)) (is_lost (sound_is n b e) q)
       go false e q = subst Read (sym (read_damaged h b slot fits here w e)) (is_damaged (λ s. false_not (sym e ∙ is_sound_lem n b s)))
 
   tells : (p : Setpoint) (v : ℕ) → line_read b k w ≡ Setting p v → (v ≡ w) × (setting_at b (place_at b k) ≡ decoded.Setting p)
@@ -97,7 +100,7 @@ module _ (h : Head) (b : List ℕ) (slot w : ℕ) (bytes : (j : ℕ) → get_or 
     where
       go : {a : BookAnswer} → Read a → a ≡ Setting p v → (v ≡ w) × Sound n b × Keeps (newest_at b slot) w × AsWritten b slot w p
       go (is_kept_lem s q) x = let t = tells p v x in (t.0, s, q, body_is b (place_at b k) bytes p t.1)
-      go (is_lost_lem s q) x = settings_written p v (sym x)
+      go (is_lost s q) x = settings_written p v (sym x)
       go (is_damaged s) x = settings_apart p v (sym x)
 
   is_setting_lem : (p : Setpoint) → Sound n b → Keeps (newest_at b slot) w → AsWritten b slot w p → read_version_of h b slot w ≡ Setting p w
@@ -113,7 +116,7 @@ module _ (h : Head) (b : List ℕ) (slot w : ℕ) (bytes : (j : ℕ) → get_or 
     where
       go : {a : BookAnswer} → Read a → a ≡ Refused NeverWritten → Sound n b × (Keeps (newest_at b slot) w → ⊥)
       go (is_kept_lem s q) x = let t = kept_setting s q in settings_written t.0 w (sym t.1 ∙ x)
-      go (is_lost_lem s q) x = (s, q)
+      go (is_lost s q) x = (s, q)
       go (is_damaged s) x = nevers_apart (sym x)
 
   damaged_is : read_version_of h b slot w ≡ Refused DamagedBook → Sound n b → ⊥
@@ -121,7 +124,7 @@ module _ (h : Head) (b : List ℕ) (slot w : ℕ) (bytes : (j : ℕ) → get_or 
     where
       go : {a : BookAnswer} → Read a → a ≡ Refused DamagedBook → Sound n b → ⊥
       go (is_kept_lem s q) x = let t = kept_setting s q in settings_apart t.0 w (sym t.1 ∙ x)
-      go (is_lost_lem s q) x = nevers_apart x
+      go (is_lost s q) x = nevers_apart x
       go (is_damaged s) x = s
 
   is_damage : (Sound n b → ⊥) → read_version_of h b slot w ≡ Refused DamagedBook
@@ -129,7 +132,7 @@ module _ (h : Head) (b : List ℕ) (slot w : ℕ) (bytes : (j : ℕ) → get_or 
     where
       go : {a : BookAnswer} → Read a → a ≡ Refused DamagedBook
       go (is_kept_lem s q) = absurd (d s)
-      go (is_lost_lem s q) = absurd (d s)
+      go (is_lost s q) = absurd (d s)
       go (is_damaged s) = refl
 
 pub reads_exactly : ReadsExactly read_version_of

@@ -2,7 +2,7 @@
 use Rattle.std.specs.Prelude.{ℕ, ◌-◌, ◌≡◌, List, [], ◌∷◌, eqb, length, get_or, if◌then◌else◌}
 use Rattle.types.specs.declared.Head.{Head}
 use Rattle.types.specs.declared.Lease.{Lease}
-use Rattle.setpoint.proofs.RoundTrip.{Held}
+use Rattle.setpoint.specs.RoundTrip.{Held}
 use Rattle.setpoint.specs.declared.Setpoint.{Setpoint}
 use Rattle.setpoint.specs.declared.Setpoint.TheVariants.{Speed}
 use Rattle.book_rules.specs.Layout.{slots_of}
@@ -40,8 +40,8 @@ abbrev pub shift_of : Course → List ℕ → List BookEntry → Shift
 shift_of k b es = record { course = k; book = b; entries = es }
 
 -- the world and the head in force
-abbrev pub world_of_lem : Shift → World
-world_of_lem s = s.course.world
+abbrev pub world_of : Shift → World
+world_of s = s.course.world
 
 abbrev pub head_of_lem : Shift → Head
 head_of_lem s = s.course.world.head
@@ -54,7 +54,7 @@ abbrev pub preparing_book : Shift → BookAnswer × List ℕ
 preparing_book s = prepare_book_of (head_of_lem s) s.book
 
 abbrev pub writing : Shift → ℕ → Lease → Setpoint → BookAnswer × List ℕ
-writing s slot l p = write_setpoint_of (head_of_lem s) (world_of_lem s).table s.book slot l p
+writing s slot l p = write_setpoint_of (head_of_lem s) (world_of s).table s.book slot l p
 
 abbrev pub reading : Shift → ℕ → BookAnswer
 reading s slot = read_setpoint_of (head_of_lem s) s.book slot

@@ -5,3 +5,5 @@ pub mod Heads
 pub mod After
 pub mod Exact
 pub mod Parted
+pub mod Examples
+pub mod Runs

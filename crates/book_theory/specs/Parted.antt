@@ -28,7 +28,7 @@ use Rattle.history.specs.Events.{lives}
 use Rattle.history.proofs.Logs.{boot_now}
 use Rattle.history.proofs.Writers.{looked}
 use Rattle.history.proofs.Courses.{Stretch, run_stretch, ledger, begun, events_append, not_prepared, not_salvaged}
-use Rattle.book_theory.specs.Items.{BookItem, arena_item, prepare_book, write_setpoint, read_setpoint, read_version, Shift, shift_of, world_of_lem, next_shift, run_shift}
+use Rattle.book_theory.specs.Items.{BookItem, arena_item, prepare_book, write_setpoint, read_setpoint, read_version, Shift, shift_of, world_of, next_shift, run_shift}
 use Rattle.book_theory.specs.Statements.{WrittenByHolder, UnownedWritesNothing, StaleWritesNothing, OneWriter, GoesOn, OneStretch, ReleasedBetween, WritersParted}
 
 -- ---- the holder
@@ -186,15 +186,15 @@ writers_parted rubbish book begin before between slot l k p q u v i o d x y n g 
     let early = runs_stretch start before (started rubbish book begin d) in
     let late = runs_stretch next between (item_stretch one (write_setpoint slot l p) early) in
     let m = further one.course next.course two.course (item_more one (write_setpoint slot l p) tt) (runs_more next between g) in
-    go one two m early late (written_by_holder (world_of_lem one) one.book slot l p u i x) (written_by_holder (world_of_lem two) two.book slot k q v o y)
+    go one two m early late (written_by_holder (world_of one) one.book slot l p u i x) (written_by_holder (world_of two) two.book slot k q v o y)
     (released_or_not (hold_in l) m.more)
   where
     go : (one two : Shift) (m : Longer one.course two.course) → Stretch one.course → Stretch two.course
-        → Live (world_of_lem one) (hold_in l) × (l.cell ≡ slot) × (l.boot ≡ (world_of_lem one).head.boot)
-        → Live (world_of_lem two) (hold_in k) × (k.cell ≡ slot) × (k.boot ≡ (world_of_lem two).head.boot)
+        → Live (world_of one) (hold_in l) × (l.cell ≡ slot) × (l.boot ≡ (world_of one).head.boot)
+        → Live (world_of two) (hold_in k) × (k.cell ≡ slot) × (k.boot ≡ (world_of two).head.boot)
         → Unreleased (hold_in l) m.more ⊎ Release (hold_in l) m.more → ReleasedBetween one.course two.course (hold_in l)
     go one two m early late f h (inr r) =
         (r.0, r.1, r.2, m.history_is ∙ ap (λ (es : List Event). history_of one.course ++ es) r.3)
     go one two m early late f h (inl c) =
-        absurd (n (leases_equal l k (one_holder (world_of_lem two) (hold_in l) (hold_in k) (still_live one.course two.course (hold_in l) early late m f.0 c) h.0 (f.1 ∙ sym h.1))
+        absurd (n (leases_equal l k (one_holder (world_of two) (hold_in l) (hold_in k) (still_live one.course two.course (hold_in l) early late m f.0 c) h.0 (f.1 ∙ sym h.1))
         (f.2 ∙ sym (still_boot one.course two.course early late m) ∙ sym h.2)))

@@ -6,7 +6,7 @@ use Rattle.types.specs.declared.Lease.{Lease}
 use Rattle.setpoint.specs.declared.Setpoint.{Setpoint}
 use Rattle.book_rules.specs.Calls.{prepare_book_of, write_setpoint_of, read_setpoint_of, read_version_of}
 use Rattle.book_rules.specs.declared.BookAnswer.{BookAnswer}
-use Rattle.book_theory.specs.Items.{prepare_book, write_setpoint, read_setpoint, read_version, prepared, wrote, was_read, version_read_lem, Shift, shift_of, world_of_lem, head_of_lem, next_shift}
+use Rattle.book_theory.specs.Items.{prepare_book, write_setpoint, read_setpoint, read_version, prepared, wrote, was_read, version_read_lem, Shift, shift_of, world_of, head_of_lem, next_shift}
 
 -- ---- what meets the promise is the item of a history
 
@@ -17,7 +17,7 @@ module _ (s : Shift) where
   prepare_book_performs o p = ap (λ (x : BookAnswer × List ℕ). shift_of s.course x.1 (prepared x.0 ∷ s.entries)) p
 
   pub write_setpoint_performs : (slot : ℕ) (l : Lease) (q : Setpoint) (o : BookAnswer × List ℕ)
-      → o ≡ write_setpoint_of (head_of_lem s) (world_of_lem s).table s.book slot l q
+      → o ≡ write_setpoint_of (head_of_lem s) (world_of s).table s.book slot l q
       → shift_of s.course o.1 (wrote slot l q o.0 ∷ s.entries) ≡ next_shift s (write_setpoint slot l q)
   unfolding next_shift
   write_setpoint_performs slot l q o p = ap (λ (x : BookAnswer × List ℕ). shift_of s.course x.1 (wrote slot l q x.0 ∷ s.entries)) p

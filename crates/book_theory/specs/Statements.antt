@@ -8,15 +8,15 @@ use Rattle.types.specs.declared.Hold.{Hold}
 use Rattle.types.specs.declared.Lease.{Lease}
 use Rattle.laws.specs.Shape.{Shaped}
 use Rattle.setpoint.specs.Codec.{has_body, body_of}
-use Rattle.setpoint.proofs.RoundTrip.{Held}
+use Rattle.setpoint.specs.RoundTrip.{Held}
 use Rattle.setpoint.specs.declared.Setpoint.{Setpoint}
 use Rattle.book_rules.specs.Layout.{slots_of, lines_of, five_at, place_at, length_at, newest_at}
 use Rattle.book_rules.specs.Writing.{count, drop_oldest_of, is_crowded}
 use Rattle.book_rules.specs.Rules.{first_fault, bad_table, bad_slot, is_bad_slot, last_version}
 use Rattle.book_rules.specs.Sound.{Kept, Apart, Sound, Free}
-use Rattle.book_rules.proofs.Appended.{goes_of}
+use Rattle.book_rules.specs.Appended.{goes_of}
 use Rattle.book_rules.specs.Wrote.{is_staying}
-use Rattle.book_rules.proofs.Outcomes.{Keeps}
+use Rattle.book_rules.specs.Outcomes.{Keeps}
 use Rattle.book_rules.specs.declared.BookAnswer.{BookAnswer}
 use Rattle.book_rules.specs.declared.BookAnswer.TheVariants.{Done, Written, Setting, Refused}
 use Rattle.book_rules.specs.declared.BookCheck.TheVariants.{Fine}
@@ -26,7 +26,7 @@ use Rattle.history.specs.Tests.{Alive}
 use Rattle.history.specs.World.{World, Live}
 use Rattle.history.specs.Items.{Item, Course, cold, history_of}
 use Rattle.history.specs.Statements.{Begins}
-use Rattle.book_theory.specs.Items.{BookItem, arena_item, prepare_book, write_setpoint, read_setpoint, read_version, BookEntry, Shift, shift_of, world_of_lem, slots_in, preparing_book, writing, reading, reading_version, next_shift, run_shift, settings, newest_read, version_read, SameSlots, AllTyped}
+use Rattle.book_theory.specs.Items.{BookItem, arena_item, prepare_book, write_setpoint, read_setpoint, read_version, BookEntry, Shift, shift_of, world_of, slots_in, preparing_book, writing, reading, reading_version, next_shift, run_shift, settings, newest_read, version_read, SameSlots, AllTyped}
 
 -- what answers a write, and what answers a read of a version; `write_setpoint_of` and `read_version_of` are ours. A statement about one call is one of
 -- any such function, so that a wrong one can be seen to fail it
@@ -245,7 +245,7 @@ OneWriter f =
 
 -- the item begins no new stretch: it is no start of the arena's history, a done preparation or a done salvage
 abbrev pub GoesOn : Shift → BookItem → Type 0
-GoesOn s (arena_item i) = Begins (world_of_lem s) i → ⊥
+GoesOn s (arena_item i) = Begins (world_of s) i → ⊥
 GoesOn s prepare_book = Unit {0}
 GoesOn s (write_setpoint slot l p) = Unit {0}
 GoesOn s (read_setpoint slot) = Unit {0}

@@ -15,46 +15,21 @@ use Rattle.types.specs.declared.Lease.{Lease}
 use Rattle.types.specs.declared.Refusal.TheVariants.{NotHeld, StaleBoot}
 use Rattle.laws.specs.Lists.{zero_bit}
 use Rattle.history.specs.World.{World, world_of, Live, now, Spent}
-use Rattle.history.specs.Items.{try_acquire_lem, drop_lease, read_permission, perform, foreign, Item, call, foreign_step, preparation, salvage_over, Course, cold, preparing, salvaging, next_item, run}
+use Rattle.history.specs.Items.{try_acquire, drop_lease, read_permission, perform, foreign, Item, call, foreign_step, preparation, salvage_over, Course, cold, preparing, salvaging, next_item, run}
 use Rattle.history.specs.Statements.{Begins, answers}
 use Rattle.history.specs.Tests.{differ}
 use Rattle.history.specs.Events.{lives}
 use Rattle.boot_theory.specs.Statements.{Owned, Throughout, boots_over, Distinct, NoRescue, Useless, Out, OverPreparations}
 use Rattle.boot_theory.proofs.Over.{owned_parts}
 use Rattle.boot_theory.proofs.Theorems.{demand_2_over, over_from}
-
--- RAM after a cold start
-abbrev rubbish : World
-rubbish = world_of (head_of 7 7 7 7) (replicate 24 7) (replicate 2 7)
-
--- prepared with first serial 1 and this boot number; the governor takes the valve's cell
-abbrev boot : ℕ → Item
-boot b = preparation 2 4 1 b
-
-abbrev take : Item
-take = call (try_acquire_lem 2)
-
--- the governor's lease, from before the second preparation
-abbrev old : Lease
-old = lease_of 2 1 5
-
--- a preparation of no headers is refused, and uses no boot number up
-abbrev refused : Item
-refused = preparation 0 4 1 5
-
--- a day in which the arena is prepared again, and the panel takes the valve's cell
-abbrev items : ℕ → List Item
-items b = take ∷ refused ∷ boot b ∷ take ∷ []
-
-abbrev day : ℕ → Course
-day b = run (cold rubbish) (boot 5 ∷ items b)
+use Rattle.boot_theory.specs.Examples.{rubbish, boot, take, old, refused, items, day, given_back, further, step_first, rescue, prepared_again}
 
 -- "A lease from before a preparation was accepted after it because the first serial was the same": with one boot number for both, the panel is handed the
 -- governor's lease once more; it owned nothing behind the second preparation, and now owns the cell again: the governor reads by it and gives the
 -- panel's valve away
-pub accident : (answers (run (cold rubbish) (boot 5 ∷ [])).world (try_acquire_lem 2) ≡ Granted old)
+pub accident : (answers (run (cold rubbish) (boot 5 ∷ [])).world (try_acquire 2) ≡ Granted old)
     × (answers (run (cold rubbish) (boot 5 ∷ take ∷ refused ∷ boot 5 ∷ [])).world (read_permission old) ≡ Refused (NotHeld 0))
-    × (answers (run (cold rubbish) (boot 5 ∷ take ∷ refused ∷ boot 5 ∷ [])).world (try_acquire_lem 2) ≡ Granted old)
+    × (answers (run (cold rubbish) (boot 5 ∷ take ∷ refused ∷ boot 5 ∷ [])).world (try_acquire 2) ≡ Granted old)
     × Owned (day 5).world old
     × (answers (day 5).world (read_permission old) ≡ Cell 2)
     × (answers (day 5).world (drop_lease old) ≡ Done)
@@ -69,7 +44,7 @@ used_twice d = d.0 (inl refl)
 -- with another boot number the old lease is refused by 16, and the panel's is another
 pub refused_then : (answers (day 6).world (drop_lease old) ≡ Refused (StaleBoot 0))
     × (answers (day 6).world (read_permission old) ≡ Refused (StaleBoot 0))
-    × (answers (run (cold rubbish) (boot 5 ∷ take ∷ refused ∷ boot 6 ∷ [])).world (try_acquire_lem 2) ≡ Granted (lease_of 2 1 6))
+    × (answers (run (cold rubbish) (boot 5 ∷ take ∷ refused ∷ boot 6 ∷ [])).world (try_acquire 2) ≡ Granted (lease_of 2 1 6))
 unfolding run next_item preparing perform bit_at owner_at set_cell is_free is_held state_of state_at is_live head_fits shape_fits health_fits first take_of prepare_rules cell_rules lease_rules prepare_of acquire_of try_acquire_of drop_lease_of read_permission_of
 refused_then = (refl, refl, refl)
 
@@ -95,7 +70,7 @@ pub governor_out : Useless (run (run (cold rubbish) (boot 5 ∷ [])) (items 6)).
 unfolding run next_item preparing perform bit_at owner_at set_cell is_free is_held state_of state_at head_fits shape_fits health_fits first take_of prepare_rules cell_rules prepare_of acquire_of try_acquire_of
 governor_out = (
   (day_over.stale old refl (λ e. let z : false ≡ true = cc in differ z)).0,
-  day_over.writers (try_acquire_lem 2) (try_acquire_lem 2) (refused ∷ boot 6 ∷ []) [] old (lease_of 2 1 6) refl refl refl refl,
+  day_over.writers (try_acquire 2) (try_acquire 2) (refused ∷ boot 6 ∷ []) [] old (lease_of 2 1 6) refl refl refl refl,
 )
 
 -- a script's step is the one exception: it has no boot number, and means the head's own. One that names the governor's cell and serial frees the
@@ -104,14 +79,6 @@ pub freed_by_a_step : (answers (day 6).world (read_permission (lease_of 2 1 6)) 
     × (answers (run (day 6) (foreign_step 2 2 1 ∷ [])).world (read_permission (lease_of 2 1 6)) ≡ Refused (NotHeld 0))
 unfolding run next_item preparing perform foreign bit_at owner_at set_cell is_free is_held state_of state_at is_live is_in head_fits shape_fits health_fits first step_release_of step_of take_of prepare_rules cell_rules lease_rules prepare_of acquire_of try_acquire_of read_permission_of
 freed_by_a_step = (refl, refl)
-
--- ---- a lease that was given back before the second preparation
-
-abbrev given_back : Course
-given_back = run (cold rubbish) (boot 5 ∷ take ∷ call (drop_lease old) ∷ [])
-
-abbrev further : List Item
-further = boot 6 ∷ take ∷ []
 
 -- every cell is free, and next is 2
 all_free : given_back.world ≡ world_of (head_of 2 4 2 5) (replicate 24 0) (replicate 2 0)
@@ -143,27 +110,11 @@ never_again = (
     boot_then : given_back.world.head.boot ≡ 5
     boot_then = ap (λ (w : World). w.head.boot) all_free
 
--- ---- whoever takes
-
--- somebody else's step takes the valve's cell, the arena is prepared again, and the panel takes the cell: the first lease is out, though no call handed
--- it over
-abbrev step_first : List Item
-step_first = foreign_step 1 2 0 ∷ boot 6 ∷ take ∷ []
-
 pub taker_out : Out (run (cold rubbish) (boot 5 ∷ [])) step_first old
 unfolding run next_item preparing perform foreign bit_at owner_at set_cell is_free is_held state_of state_at head_fits shape_fits health_fits first step_take_of step_of take_of prepare_rules cell_rules prepare_of acquire_of try_acquire_of
 taker_out =
     (demand_2_over rubbish (boot 5) [] step_first [] refl (λ z. z, (λ z. z, (λ z. z, (λ z. z, tt)))) two_boots
     ).takers (foreign_step 1 2 0) take (boot 6 ∷ []) [] old (lease_of 2 1 6) refl (by_script, [], [], refl, refl) (by_caller, attempt_begun ∷ [], [], refl, refl) refl
-
--- ---- behind a salvage
-
--- one cell, held by serial 1, the boot number on paper 5; then a preparation with 6
-abbrev rescue : Item
-rescue = salvage_over (head_of 1 1 2 5) (1 ∷ 1 ∷ 0 ∷ []) (0 ∷ []) [] (7 ∷ [])
-
-abbrev prepared_again : List Item
-prepared_again = preparation 1 1 1 6 ∷ []
 
 -- the salvage is done, with no entry and one cell listed, and its boot number is in force
 pub salvaged_first : Begins rubbish rescue × ((run (cold rubbish) (rescue ∷ [])).world.head.boot ≡ 5)

@@ -13,7 +13,7 @@ use Rattle.types.specs.declared.Check.TheVariants.{Fine}
 use Rattle.types.specs.declared.Lease.{Lease}
 use Rattle.laws.specs.Checks.{not_stale}
 use Rattle.history.specs.World.{World, now}
-use Rattle.history.specs.Items.{Call, Among, try_acquire_lem, drop_lease, read_permission, competing_acquire, release_then_handoff, foreign_release, drop_preserving, acquire_preserving, environment, try_lock_lem, transactional, acquire_bucket, release_all_lem, acquire_locks, acquire_sorted, crew, crew_at_work_lem, ByKeys, in_order, any_order, Says, perform, Item, call, foreign_step, Course, cold, next_item, run}
+use Rattle.history.specs.Items.{Call, Among, try_acquire, drop_lease, read_permission, competing_acquire, release_then_handoff, foreign_release, drop_preserving, acquire_preserving, environment, try_lock, transactional, acquire_bucket, release_all, acquire_locks, acquire_sorted, crew, crew_at_work, ByKeys, in_order, any_order, Says, perform, Item, call, foreign_step, Course, cold, next_item, run}
 use Rattle.history.specs.Statements.{HandsOver, Gives, answers, leaves, buffer_in, alone}
 use Rattle.history.proofs.Theorems.{grant_is, buffer_is, given_live, handed_over, boot_stays, refused_unowned, stale_is_16}
 use Rattle.book_theory.proofs.Theorems.{unowned_writes_nothing, stale_writes_nothing}
@@ -101,7 +101,7 @@ keys_boot w c registry keys b e l x =
 
 buffer_boot : (w : World) (c : Call) (l : Lease) → answers w c ≡ AllGranted → Among l (leases_of (buffer_in (perform w c))) → l.boot ≡ w.head.boot
 unfolding perform leases_of
-buffer_boot w (try_acquire_lem c) l e x = absurd x
+buffer_boot w (try_acquire c) l e x = absurd x
 buffer_boot w (drop_lease k) l e x = absurd x
 buffer_boot w (read_permission k) l e x = absurd x
 buffer_boot w (competing_acquire k) l e x = absurd x
@@ -110,16 +110,16 @@ buffer_boot w (foreign_release held k) l e x = absurd x
 buffer_boot w (drop_preserving held k) l e x = absurd x
 buffer_boot w (acquire_preserving held c) l e x = absurd x
 buffer_boot w (environment script place held) l e x = absurd x
-buffer_boot w (try_lock_lem script place held c) l e x = absurd x
+buffer_boot w (try_lock script place held c) l e x = absurd x
 buffer_boot w (transactional registry script place held binding bucket) l e x = absurd x
 buffer_boot w (acquire_bucket registry script place held binding bucket) l e x = absurd x
-buffer_boot w (release_all_lem script place leases) l e x = absurd x
+buffer_boot w (release_all script place leases) l e x = absurd x
 buffer_boot w (acquire_locks registry script place held keys grants) l e x =
     keys_boot w (acquire_locks registry script place held keys grants) registry keys (in_order registry script place held keys grants) e l x
 buffer_boot w (acquire_sorted registry script place held keys grants) l e x =
     keys_boot w (acquire_sorted registry script place held keys grants) registry keys (any_order registry script place held keys grants) e l x
 buffer_boot w (crew counts cells turns) l e x = absurd x
-buffer_boot w (crew_at_work_lem counts cells turns counters) l e x = absurd x
+buffer_boot w (crew_at_work counts cells turns counters) l e x = absurd x
 
 handed_boot : (w : World) (c : Call) (l : Lease) (a : Answer) → answers w c ≡ a → HandsLease a (buffer_in (perform w c)) l → l.boot ≡ w.head.boot
 handed_boot w c l Done e x = absurd x

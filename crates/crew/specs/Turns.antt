@@ -97,11 +97,11 @@ module _ (next : ℕ) (t made serials : List ℕ) (moving idle : ℕ) (counters 
 -- ---- one turn of the loop, at place i of the turns
 
 module _ (work : Work) (headers buckets : ℕ) (g counts cells : List ℕ) (next : ℕ) (t made serials : List ℕ) (moving idle : ℕ) (counters noted : List ℕ) where
-  abbrev at_work_lem : Crew
-  at_work_lem = crew_at next t made serials moving idle counters noted
+  abbrev at_work : Crew
+  at_work = crew_at next t made serials moving idle counters noted
 
   idle_is : (m : ℕ) → leb (moves_of work (get_or counts m 0)) (get_or made m 0) ≡ true
-      → (turn_of work headers buckets g counts cells at_work_lem m).seen ≡ crew_at next t made serials moving (idle + 1) counters noted
+      → (turn_of work headers buckets g counts cells at_work m).seen ≡ crew_at next t made serials moving (idle + 1) counters noted
   unfolding turn_of
   idle_is m e = rw e
 
@@ -112,16 +112,16 @@ module _ (work : Work) (headers buckets : ℕ) (g counts cells : List ℕ) (next
   -- and the crew behind it
   abbrev pub crew_by : ℕ → ℕ → ℕ → Move × (List ℕ × List ℕ) → Crew
   crew_by m start k o =
-      after o.0 o.1.0 o.1.1 (noted_by o.0 (eqb (get_or made m 0 + 1) (get_or counts m 0)) noted o.1.1 m (get_or cells start 0)) at_work_lem m k
+      after o.0 o.1.0 o.1.1 (noted_by o.0 (eqb (get_or made m 0 + 1) (get_or counts m 0)) noted o.1.1 m (get_or cells start 0)) at_work m k
 
   move_is : (m start k : ℕ) → start ≡ start_of counts m → m < length made → Placed work start (get_or made m 0) (get_or counts m 0) k
       → leb (moves_of work (get_or counts m 0)) (get_or made m 0) ≡ false
-      → (turn_of work headers buckets g counts cells at_work_lem m).seen ≡ crew_by m start k (move_at m k)
+      → (turn_of work headers buckets g counts cells at_work m).seen ≡ crew_by m start k (move_at m k)
   unfolding turn_of work_move_of
   move_is m start k s l p e = go (ltb (get_or made m 0) (get_or counts m 0)) (ltb (get_or made m 0) (get_or counts m 0 + adds_of work (get_or counts m 0))) refl refl
     where
       go : (a b : Bool) → ltb (get_or made m 0) (get_or counts m 0) ≡ a → ltb (get_or made m 0) (get_or counts m 0 + adds_of work (get_or counts m 0)) ≡ b
-          → (turn_of work headers buckets g counts cells at_work_lem m).seen ≡ crew_by m start k (move_at m k)
+          → (turn_of work headers buckets g counts cells at_work m).seen ≡ crew_by m start k (move_at m k)
       go true b f h =
           let yet = ltb-true _ _ f in
           rw (e, f, ← s, ← p.taking yet, try_is next t made serials moving idle counters noted m k (get_or cells k 0) headers buckets g)
@@ -132,23 +132,23 @@ module _ (work : Work) (headers buckets : ℕ) (g counts cells : List ℕ) (next
           (give_is next t made serials moving idle counters noted m k (get_or cells k 0) buckets g (eqb (get_or made m 0 + 1) (get_or counts m 0)) (get_or cells start 0))
 
   turns_step : (turns : List ℕ) (i : ℕ) → i < length turns
-      → (turns_of work headers buckets g counts cells at_work_lem (drop i turns)).seen
-      ≡ (turns_of work headers buckets g counts cells (turn_of work headers buckets g counts cells at_work_lem (get_or turns i 0)).seen (drop (i + 1) turns)).seen
+      → (turns_of work headers buckets g counts cells at_work (drop i turns)).seen
+      ≡ (turns_of work headers buckets g counts cells (turn_of work headers buckets g counts cells at_work (get_or turns i 0)).seen (drop (i + 1) turns)).seen
   unfolding turns_of
   turns_step turns i l = rw (drop_one turns i l)
 
   pub idle_at : (turns : List ℕ) (i : ℕ) → i < length turns → moves_of work (get_or counts (get_or turns i 0) 0) ≤ get_or made (get_or turns i 0) 0
-      → (turns_of work headers buckets g counts cells at_work_lem (drop i turns)).seen
+      → (turns_of work headers buckets g counts cells at_work (drop i turns)).seen
       ≡ (turns_of work headers buckets g counts cells (crew_at next t made serials moving (idle + 1) counters noted) (drop (i + 1) turns)).seen
   idle_at turns i l e = turns_step turns i l ∙ rw (idle_is (get_or turns i 0) (le-leb _ _ e))
 
   pub move_at_lem : (turns : List ℕ) (i start k : ℕ) → i < length turns → start ≡ start_of counts (get_or turns i 0) → get_or turns i 0 < length made
       → Placed work start (get_or made (get_or turns i 0) 0) (get_or counts (get_or turns i 0) 0) k → get_or made (get_or turns i 0) 0 < moves_of work (get_or counts (get_or turns i 0) 0)
-      → (turns_of work headers buckets g counts cells at_work_lem (drop i turns)).seen
+      → (turns_of work headers buckets g counts cells at_work (drop i turns)).seen
       ≡ (turns_of work headers buckets g counts cells (crew_by (get_or turns i 0) start k (move_at (get_or turns i 0) k)) (drop (i + 1) turns)).seen
   move_at_lem turns i start k l s r p e = turns_step turns i l ∙ rw (move_is (get_or turns i 0) start k s r p (lt-leb _ _ e))
 
-  pub turns_done : (turns : List ℕ) (i : ℕ) → length turns ≤ i → (turns_of work headers buckets g counts cells at_work_lem (drop i turns)).seen ≡ at_work_lem
+  pub turns_done : (turns : List ℕ) (i : ℕ) → length turns ≤ i → (turns_of work headers buckets g counts cells at_work (drop i turns)).seen ≡ at_work
   unfolding turns_of
   turns_done turns i l = rw (drop_of_length-le turns l)
 

@@ -7,16 +7,14 @@ use Rattle.model.specs.Arena.{cells_of, bit_at}
 use Rattle.model.specs.Crew.{adds, start_of, count_of, moved}
 use Rattle.types.specs.declared.Head.{Head}
 use Rattle.crew_theory.specs.Statements.{named, wish}
-use Rattle.history.proofs.Crew.{Holds}
+use Rattle.history.specs.Crew.{Holds}
 use Rattle.crew_theory.specs.Lists.{Fits}
-use Rattle.crew_theory.proofs.Steady.{Made, mine, other, see_made}
+use Rattle.crew_theory.specs.Steady.{Made, mine, other}
+use Rattle.crew_theory.proofs.Steady.{see_made}
 use Rattle.crew_theory.proofs.Whole.{Grips}
 use Rattle.crew_at_work_theory.specs.Statements.{whole_by}
 use Rattle.crew_at_work_theory.specs.Wholes.{among, whole_at, whole_other}
-
--- member q holds all and has yet to add to the j-th cell of its list
-abbrev pub Due : List ℕ → List ℕ → ℕ → ℕ → Type 0
-Due counts made q j = (count_of counts q ≤ get_or made q 0) × (get_or made q 0 ≤ count_of counts q + j) × (j < count_of counts q)
+use Rattle.crew_at_work_theory.specs.Due.{Due}
 
 module _ (plus : ℕ → ℕ → ℕ) (counts cells : List ℕ) where
   -- the counter of c is the replayed one, or c is owed an add

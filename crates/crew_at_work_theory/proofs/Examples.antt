@@ -14,19 +14,7 @@ use Rattle.types.specs.declared.Head.{Head}
 use Rattle.crew_theory.specs.Statements.{In, named, adds_of_lem}
 use Rattle.crew_at_work_theory.specs.Statements.{raised_by, whole_by, replay_by, replay_of, AllFinished, Low, Owes, times, Before, Strangers, GivesWay}
 use Rattle.crew_at_work_theory.proofs.Theorems.{one_after_another, over_remainders, owes_only, released_first, any_order}
-
-abbrev bench : Head
-bench = head_of 2 4 1 6
-
-abbrev pairs : ℕ → List ℕ
-pairs zero = []
-pairs (suc n) = 0 ∷ 1 ∷ pairs n
-
-abbrev counters : List ℕ
-counters = 0 ∷ 1 ∷ 40000 ∷ 3 ∷ 4 ∷ 60000 ∷ 6 ∷ 7 ∷ []
-
-abbrev at_work_lem : List ℕ → List ℕ → List ℕ → Made (CrewReply × (List ℕ × List ℕ))
-at_work_lem counts cells turns = crew_at_work_of bench (replicate 24 0) (replicate 2 0) counts cells turns counters
+use Rattle.crew_at_work_theory.specs.Examples.{bench, pairs, counters, eleven, lapped, short, strangers}
 
 -- two members
 both_done : (counts : List ℕ) (r : CrewReply) → length counts ≡ 2 → get_or r.released 0 0 ≡ get_or counts 0 0 → get_or r.released 1 0 ≡ get_or counts 1 0 → AllFinished counts r
@@ -44,11 +32,6 @@ low (suc (suc (suc (suc (suc zero))))) = omega arith
 low (suc (suc (suc (suc (suc (suc zero)))))) = omega arith
 low (suc (suc (suc (suc (suc (suc (suc zero))))))) = omega arith
 low (suc (suc (suc (suc (suc (suc (suc (suc c)))))))) = omega arith
-
--- ---- "eleven pairs of turns"
-
-abbrev eleven : Made (CrewReply × (List ℕ × List ℕ))
-eleven = at_work_lem (2 ∷ 2 ∷ []) (2 ∷ 5 ∷ 2 ∷ 5 ∷ []) (pairs 11)
 
 pub eleven_finished : (eleven.seen.0.answer ≡ Done) × AllFinished (2 ∷ 2 ∷ []) eleven.seen.0 × (order_of eleven.log ≡ 0 ∷ 1 ∷ [])
 unfolding bit_at owner_at waiters_at set_cell is_free is_held state_of state_at head_fits shape_fits health_fits first run_steps_of boundary_of take_of late_stage_of second_stage_of lock_of summed_of total start_of all_within rises_from bad_lists bad_turns crew_at_work_rules try_turn_of held_all_of add_turn_of release_turn_of turn_of turns_of taken_of released_of shift_of crew_at_work_of order_of
@@ -75,22 +58,9 @@ eleven_gives_way =
     released_first bench (replicate 24 0) (replicate 2 0) (2 ∷ 2 ∷ []) (2 ∷ 5 ∷ 2 ∷ 5 ∷ []) (pairs 11) counters 0 1 1 1 eleven_finished.0 (λ e. omega arith) (omega arith) (omega arith) refl
     (rw eleven_finished.2 (inl (refl, inl refl)))
 
--- ---- crew {2,5},{5}: member 0 gives cell 5 back and keeps cell 2, and member 1 is finished before it. The order is that of holding all
-
-abbrev laps : List ℕ
-laps = 0 ∷ 0 ∷ 0 ∷ 0 ∷ 0 ∷ 1 ∷ 1 ∷ 1 ∷ []
-
-abbrev lapped : Made (CrewReply × (List ℕ × List ℕ))
-lapped = at_work_lem (2 ∷ 1 ∷ []) (2 ∷ 5 ∷ 5 ∷ []) laps
-
 pub finished_first : (get_or lapped.seen.0.released 0 0 ≡ 1) × (get_or lapped.seen.0.released 1 0 ≡ 1) × (order_of lapped.log ≡ 0 ∷ 1 ∷ [])
 unfolding bit_at owner_at waiters_at set_cell is_free is_held state_of state_at head_fits shape_fits health_fits first run_steps_of boundary_of take_of late_stage_of second_stage_of lock_of summed_of total start_of all_within rises_from bad_lists bad_turns crew_at_work_rules try_turn_of held_all_of add_turn_of release_turn_of turn_of turns_of taken_of released_of shift_of crew_at_work_of order_of
 finished_first = (refl, refl, refl)
-
--- ---- turns run out: member 0 has added to cell 2, and owes cell 5
-
-abbrev short : Made (CrewReply × (List ℕ × List ℕ))
-short = at_work_lem (2 ∷ 2 ∷ []) (2 ∷ 5 ∷ 2 ∷ 5 ∷ []) (0 ∷ 0 ∷ 0 ∷ [])
 
 pub short_so : (short.seen.0.answer ≡ Done) × (order_of short.log ≡ 0 ∷ []) × (adds_of_lem 0 short.log ≡ 1) × (short.seen.1.1 ≡ 0 ∷ 1 ∷ 14464 ∷ 3 ∷ 4 ∷ 60000 ∷ 6 ∷ 7 ∷ [])
 unfolding bit_at owner_at waiters_at set_cell is_free is_held state_of state_at head_fits shape_fits health_fits first run_steps_of boundary_of take_of late_stage_of second_stage_of lock_of summed_of total start_of all_within rises_from bad_lists bad_turns crew_at_work_rules try_turn_of held_all_of add_turn_of release_turn_of turn_of turns_of taken_of released_of shift_of crew_at_work_of order_of adds_of_lem
@@ -118,11 +88,6 @@ not_owed (m, j, i, a, b, e) = go (rw short_so.1 at i)
 
 pub short_replayed : get_or short.seen.1.1 2 0 ≡ get_or (replay_of (2 ∷ 2 ∷ []) (2 ∷ 5 ∷ 2 ∷ 5 ∷ []) counters (order_of short.log)) 2 0
 short_replayed = owes_only bench (replicate 24 0) (replicate 2 0) (2 ∷ 2 ∷ []) (2 ∷ 5 ∷ 2 ∷ 5 ∷ []) (0 ∷ 0 ∷ 0 ∷ []) counters short_so.0 2 not_owed
-
--- ---- crew {2},{5}: they share nothing, and the other order gives the same
-
-abbrev strangers : Made (CrewReply × (List ℕ × List ℕ))
-strangers = at_work_lem (1 ∷ 1 ∷ []) (2 ∷ 5 ∷ []) (pairs 3)
 
 pub strangers_finished : (strangers.seen.0.answer ≡ Done) × AllFinished (1 ∷ 1 ∷ []) strangers.seen.0 × (order_of strangers.log ≡ 0 ∷ 1 ∷ [])
 unfolding bit_at owner_at waiters_at set_cell is_free is_held state_of state_at head_fits shape_fits health_fits first run_steps_of boundary_of take_of late_stage_of second_stage_of lock_of summed_of total start_of all_within rises_from bad_lists bad_turns crew_at_work_rules try_turn_of held_all_of add_turn_of release_turn_of turn_of turns_of taken_of released_of shift_of crew_at_work_of order_of

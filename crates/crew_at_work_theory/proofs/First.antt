@@ -15,7 +15,7 @@ use Rattle.types.specs.declared.Head.{Head}
 use Rattle.types.specs.declared.State.TheVariants as state
 use Rattle.laws.specs.Lists.{zeros}
 use Rattle.history.specs.Tests.{free_words}
-use Rattle.history.proofs.Crew.{Holds}
+use Rattle.history.specs.Crew.{Holds}
 use Rattle.crew_theory.specs.Statements.{In, named, wish, deeds_in, idled, grabbed, summed, gave, own_log}
 use Rattle.crew_theory.specs.Lists.{Fits}
 use Rattle.crew_theory.specs.Turns.{turn_is}

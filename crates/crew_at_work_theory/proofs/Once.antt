@@ -23,7 +23,7 @@ use Rattle.crew_theory.proofs.Whole.{Shown, start_shown}
 use Rattle.crew_at_work_theory.specs.Statements.{AllFinished, Owes, times, NamedSo}
 use Rattle.crew_at_work_theory.specs.Orders.{in_times, times_in, held_all, run, log_of, turns_grow}
 use Rattle.crew_at_work_theory.specs.Wholes.{whole_none}
-use Rattle.crew_at_work_theory.proofs.Due.{Due}
+use Rattle.crew_at_work_theory.specs.Due.{Due}
 
 -- a reply that says done was not refused
 pub done_fine : (h : Head) (t g counts cells turns counters : List ℕ) → (crew_at_work_of h t g counts cells turns counters).seen.0.answer ≡ Done

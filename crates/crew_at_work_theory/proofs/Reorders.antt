@@ -12,12 +12,7 @@ use Rattle.crew_theory.specs.Lists.{Fits}
 use Rattle.crew_at_work_theory.specs.Statements.{whole_by, replay_by, times, Before, Strangers}
 use Rattle.crew_at_work_theory.specs.Orders.{Counted, this, that, counted, in_times, before_first, before_last}
 use Rattle.crew_at_work_theory.specs.Wholes.{Listed, among, whole_length, whole_at, whole_other}
-
--- the same members, each at most once, and those that share a cell in the same order
-pub record Reorders (counts cells xs ys : List ℕ) : Type 0 where
-  pub same : (m : ℕ) → times m xs ≡ times m ys
-  pub once : (m : ℕ) → times m xs ≤ 1
-  pub keeps : (a b : ℕ) → Before a b ys → Strangers counts cells a b ⊎ Before a b xs
+use Rattle.crew_at_work_theory.specs.Reorders.{Reorders, Found}
 
 -- ---- lists
 
@@ -38,9 +33,6 @@ times_middle n m (x ∷ a) b = go (counted n x (a ++ (m ∷ b))) (counted n x (a
     go (this e f) (this g h) (that i j) (this k l) r = absurd (i k)
     go (that e f) (that g h) (this i j) (that k l) r = absurd (k i)
     go (that e f) (that g h) (that i j) (this k l) r = absurd (i k)
-
-abbrev Found : ℕ → List ℕ → Type 0
-Found m l = (a : List ℕ) × (b : List ℕ) × (l ≡ a ++ (m ∷ b))
 
 find : (m : ℕ) (l : List ℕ) → 1 ≤ times m l → Found m l
 unfolding times

@@ -1,5 +1,6 @@
 -- A crew, in any work, whose members all begin with the same cell: whoever has taken it moves alone until it gives it back, so there are rounds that have
 -- at most one move each, as many as one likes.
+-- ---- lists of turns
 use Prim.Native.Nat.{ℕ, zero, suc, ◌+◌, ◌*◌, ◌≤◌, ◌<◌}
 use Rattle.std.specs.Prelude.{◌≡◌, refl, Bool, true, false, ◌≢◌, ◌⊎◌, eqb, length, if◌then◌else◌}
 use Rattle.std.proofs.Common.{sym, ◌∙◌, get_or-set_other, eqb-true}
@@ -17,18 +18,12 @@ use Rattle.model.specs.Crew.{Work, moves_of, start_of, count_of, Crew, turn_of, 
 use Rattle.types.specs.declared.Head.{Head}
 use Rattle.laws.specs.Crew.{adds_few, member, listed}
 use Rattle.history.specs.Tests.{free_words, if_cases}
-use Rattle.history.proofs.Crew.{Holds}
+use Rattle.history.specs.Crew.{Holds}
 use Rattle.crew_theory.specs.Statements.{In, flat, after, IsRound, Rounds, Open, named, wish, BeginWith, Turn, idled, grabbed, summed, gave}
 use Rattle.crew_theory.specs.Turns.{in_left, in_right, in_either, turns_append, turn_is, Step, stays, steps, turn_steps}
 use Rattle.crew_theory.proofs.Steady.{Goes, fit, turn_steady, turns_steady}
 use Rattle.crew_theory.proofs.Whole.{Shown, turn_shown, turns_shown}
-
--- ---- lists of turns
-
--- n - 1 down to 0
-abbrev pub upto : ℕ → List ℕ
-upto zero = []
-upto (suc n) = n ∷ upto n
+use Rattle.crew_theory.specs.Alone.{upto, but}
 
 in_upto : (n m : ℕ) → m < n → In m (upto n)
 in_upto zero m l = absurd (omega arith)
@@ -46,11 +41,6 @@ upto_low (suc n) m (inr i) = omega (arith, upto_low n m i)
 upto_long : (n : ℕ) → length (upto n) ≡ n
 upto_long zero = refl
 upto_long (suc n) = ap suc (upto_long n)
-
--- the same without a
-abbrev pub but : ℕ → ℕ → List ℕ
-but a zero = []
-but a (suc n) = if eqb n a then but a n else n ∷ but a n
 
 in_but : (a n m : ℕ) → m ≢ a → m < n → In m (but a n)
 in_but a zero m d l = absurd (omega arith)

@@ -1,4 +1,5 @@
 -- What a member's own turns take, add to and release: its list, from the first place on, again for its work, and then back from the last.
+-- ---- the cells of a log
 use Rattle.std.specs.Prelude.{ℕ, suc, ◌+◌, ◌-◌, min, ◌≤◌, ◌<◌, ◌≡◌, Bool, true, false, ◌≢◌, eqb, length, get_or, take, drop, if◌then◌else◌}
 use Rattle.std.proofs.Math.Path.{refl, ap}
 use Rattle.std.proofs.Common.{sym, ◌∙◌, subst, arith, length-take, drop_of_length-le, drop-cons, get_or-take, get_or-set_same, get_or-set_other, eqb-true}
@@ -11,12 +12,11 @@ use Rattle.laws.specs.Lists.{zeros}
 use Rattle.laws.specs.Crew.{adds_few, member, listed}
 use Rattle.history.specs.World.{Kind, takes, releases, kind_of_lem, code}
 use Rattle.history.specs.Tests.{if_cases}
-use Rattle.crew_theory.specs.Statements.{Open, after, is_add, deeds_in, filling, Turn, idled, grabbed, summed, gave, cell_of_lem, cells_in, cells_added, falling, own_log, InOrder}
+use Rattle.crew_theory.specs.Statements.{Open, after, is_add, deeds_in, filling, Turn, idled, grabbed, summed, gave, cell_of, cells_in, cells_added, falling, own_log, InOrder}
 use Rattle.crew_theory.specs.Turns.{same, turn_is, Step, stays, steps, turn_steps}
 use Rattle.crew_theory.proofs.Steady.{Goes, fit, start_steady, turn_steady, turns_steady}
 use Rattle.crew_theory.proofs.Ended.{ended}
-
--- ---- the cells of a log
+use Rattle.crew_theory.specs.Deeds.{Cells}
 
 cells_append : (k : Kind) (xs ys : List Event) → cells_in k (xs ++ ys) ≡ cells_in k xs ++ cells_in k ys
 unfolding cells_in
@@ -24,8 +24,8 @@ cells_append k [] ys = refl
 cells_append k (e ∷ es) ys = go (eqb (code (kind_of_lem e)) (code k)) (cells_append k es ys)
   where
     go : (b : Bool) → cells_in k (es ++ ys) ≡ cells_in k es ++ cells_in k ys
-        → (if b then cell_of_lem e ∷ cells_in k (es ++ ys) else cells_in k (es ++ ys)) ≡ (if b then cell_of_lem e ∷ cells_in k es else cells_in k es) ++ cells_in k ys
-    go true r = ap {B = List ℕ} (λ l. cell_of_lem e ∷ l) r
+        → (if b then cell_of e ∷ cells_in k (es ++ ys) else cells_in k (es ++ ys)) ≡ (if b then cell_of e ∷ cells_in k es else cells_in k es) ++ cells_in k ys
+    go true r = ap {B = List ℕ} (λ l. cell_of e ∷ l) r
     go false r = r
 
 added_append : (xs ys : List Event) → cells_added (xs ++ ys) ≡ cells_added xs ++ cells_added ys
@@ -34,23 +34,17 @@ added_append [] ys = refl
 added_append (e ∷ es) ys = go (eqb (is_add e) 1) (added_append es ys)
   where
     go : (b : Bool) → cells_added (es ++ ys) ≡ cells_added es ++ cells_added ys
-        → (if b then cell_of_lem e ∷ cells_added (es ++ ys) else cells_added (es ++ ys)) ≡ (if b then cell_of_lem e ∷ cells_added es else cells_added es) ++ cells_added ys
-    go true r = ap {B = List ℕ} (λ l. cell_of_lem e ∷ l) r
+        → (if b then cell_of e ∷ cells_added (es ++ ys) else cells_added (es ++ ys)) ≡ (if b then cell_of e ∷ cells_added es else cells_added es) ++ cells_added ys
+    go true r = ap {B = List ℕ} (λ l. cell_of e ∷ l) r
     go false r = r
-
--- the cells of what a log did
-pub record Cells (log : List Event) (takings addings givings : List ℕ) : Type 0 where
-  pub takes_are : cells_in takes log ≡ takings
-  pub adds_are : cells_added log ≡ addings
-  pub releases_are : cells_in releases log ≡ givings
 
 same_cells : (log : List Event) → Cells log (cells_in takes (deeds_in log)) (cells_added (deeds_in log)) (cells_in releases (deeds_in log))
 unfolding cells_in cells_added
 same_cells log =
     record {
-      takes_are = same (cells_in takes) (λ e l. if eqb (code (kind_of_lem e)) 4 then cell_of_lem e ∷ l else l) (λ e es. refl) (λ l. refl) (λ l. refl) (λ l. refl) (λ l. refl) log;
-      adds_are = same cells_added (λ e l. if eqb (is_add e) 1 then cell_of_lem e ∷ l else l) (λ e es. refl) (λ l. refl) (λ l. refl) (λ l. refl) (λ l. refl) log;
-      releases_are = same (cells_in releases) (λ e l. if eqb (code (kind_of_lem e)) 5 then cell_of_lem e ∷ l else l) (λ e es. refl) (λ l. refl) (λ l. refl) (λ l. refl) (λ l. refl) log;
+      takes_are = same (cells_in takes) (λ e l. if eqb (code (kind_of_lem e)) 4 then cell_of e ∷ l else l) (λ e es. refl) (λ l. refl) (λ l. refl) (λ l. refl) (λ l. refl) log;
+      adds_are = same cells_added (λ e l. if eqb (is_add e) 1 then cell_of e ∷ l else l) (λ e es. refl) (λ l. refl) (λ l. refl) (λ l. refl) (λ l. refl) log;
+      releases_are = same (cells_in releases) (λ e l. if eqb (code (kind_of_lem e)) 5 then cell_of e ∷ l else l) (λ e es. refl) (λ l. refl) (λ l. refl) (λ l. refl) (λ l. refl) log;
     }
 
 cells_of_lem : {log ds : List Event} {x y z : List ℕ} → deeds_in log ≡ ds → Cells ds x y z → Cells log x y z

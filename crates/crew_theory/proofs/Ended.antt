@@ -15,7 +15,8 @@ use Rattle.history.specs.World.{takes, number_of_lem}
 use Rattle.history.specs.Counted.{number_append}
 use Rattle.crew_theory.specs.Statements.{Open, adds_in, Completed, tabled, Turn, idled, grabbed, summed, gave}
 use Rattle.crew_theory.specs.Turns.{adds_append, none_done, one_took, one_added, one_gave, turn_is, turns_count}
-use Rattle.crew_theory.proofs.Steady.{takings_of, works_of, works_plus, left, left_start, left_move, Status, same, held, Steady, Goes, fit, start_steady, turn_steady, turns_steady}
+use Rattle.crew_theory.specs.Steady.{takings_of, works_of, left}
+use Rattle.crew_theory.proofs.Steady.{works_plus, left_start, left_move, Status, same, held, Steady, Goes, fit, start_steady, turn_steady, turns_steady}
 use Rattle.crew_theory.proofs.Rounds.{left_at, some_left}
 
 -- two tables with the same words

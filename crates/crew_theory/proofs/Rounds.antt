@@ -12,11 +12,12 @@ use Rattle.model.specs.Arena.{cells_of, is_free, state_of, state_at}
 use Rattle.model.specs.Crew.{Work, moves_of, total, start_of, count_of, Crew, crew_at, turn_of, turns_of}
 use Rattle.types.specs.declared.Head.{Head}
 use Rattle.laws.specs.Crew.{adds_few, start_fits, member}
-use Rattle.history.proofs.Crew.{Holds}
+use Rattle.history.specs.Crew.{Holds}
 use Rattle.crew_theory.specs.Statements.{In, flat, after, Unfinished, IsRound, Rounds, Open, Ready, Idle, finished, blocked, wish, Turn, idled, grabbed, summed, gave}
 use Rattle.crew_theory.specs.Sum.{sum_at, sum_some}
 use Rattle.crew_theory.specs.Turns.{turn_is, turns_append}
-use Rattle.crew_theory.proofs.Steady.{takings_of, left, Status, same, held, Steady, Goes, fit, was_free, turns_steady}
+use Rattle.crew_theory.specs.Steady.{takings_of, left}
+use Rattle.crew_theory.proofs.Steady.{Status, same, held, Steady, Goes, fit, was_free, turns_steady}
 
 -- what a member has left to do is at most what all have
 pub left_at : (f : ℕ → ℕ) (counts made : List ℕ) (m : ℕ) → 1 ≤ count_of counts m → f (count_of counts m) - get_or made m 0 ≤ left f counts made

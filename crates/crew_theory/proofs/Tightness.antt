@@ -1,5 +1,6 @@
 -- Demand 3's bound is tight for every K from 1 to 256, and more: every crew that meets the premises and whose members all begin with the
 -- same cell has 2K - 1 rounds, or 3K - 1 at work, after which it has not finished.
+-- ---- a crew whose members all begin with the same cell
 use Rattle.std.specs.Prelude.{ℕ, zero, suc, ◌+◌, ◌*◌, ◌-◌, ◌/◌, min, ◌≤◌, ◌<◌, ◌≡◌, refl, true, false, length, take, drop, replicate}
 use Rattle.std.proofs.Common.{sym, ap, ◌∙◌, subst, inl, length-append, take_at}
 use mathlib.Core.List.{List, [], ◌∷◌, ◌++◌}
@@ -25,8 +26,7 @@ use Rattle.crew_theory.proofs.Seen.{open_turns, crew_is, crew_at_work_is, rounds
 use Rattle.crew_theory.proofs.Ended.{released_at}
 use Rattle.crew_theory.proofs.Whole.{start_shown}
 use Rattle.crew_theory.proofs.Alone.{Run, slow_rounds}
-
--- ---- a crew whose members all begin with the same cell
+use Rattle.crew_theory.specs.Tightness.{rising, runs, bench, table, health, Part, Parts}
 
 pub tight_over : (work : Work) → TightOver work
 unfolding turns_of shift_of
@@ -91,12 +91,6 @@ tight_where_shared_at_work h t g counts cells counters c o wide begins some =
     (λ rounds fine. rounds_crew_at_work h t g counts cells rounds fine counters wide)
     (subst (λ n. ShortOf n h t g counts cells (λ turns. (shift_of adds h t g counts cells turns counters).seen.0)) (moves_three (total counts)) (tight_over adds h t g counts cells counters c o begins some))
 
--- ---- for each K: up to four members, that want the cells from 0 on
-
-abbrev rising : ℕ → ℕ → List ℕ
-rising low zero = []
-rising low (suc n) = low ∷ rising (low + 1) n
-
 rising_long : (low n : ℕ) → length (rising low n) ≡ n
 rising_long low zero = refl
 rising_long low (suc n) = ap suc (rising_long (low + 1) n)
@@ -109,10 +103,6 @@ rising_rises inside low (suc n) l = rw (le-leb low low (omega arith), lt-ltb low
 rising_first : (n : ℕ) → get_or (rising 0 n) 0 0 ≡ 0
 rising_first zero = refl
 rising_first (suc n) = refl
-
-abbrev runs : List ℕ → List ℕ
-runs [] = []
-runs (n ∷ ns) = rising 0 n ++ runs ns
 
 runs_long : (counts : List ℕ) → length (runs counts) ≡ total counts
 unfolding total
@@ -133,16 +123,6 @@ lists_fine : (inside : ℕ) (counts : List ℕ) → ((m : ℕ) → count_of coun
 unfolding first bad_lists
 lists_fine inside counts f zero m = refl
 lists_fine inside counts f (suc left) m = rw (runs_are counts m, rising_rises inside 0 (count_of counts m) (omega (arith, f m))) (lists_fine inside counts f left (m + 1))
-
--- 64 cells of one header, all free
-abbrev bench : Head
-bench = head_of 1 64 1 6
-
-abbrev table : List ℕ
-table = replicate 192 0
-
-abbrev health : List ℕ
-health = replicate 1 0
 
 module _ (a b c d : ℕ) (a64 : a ≤ 64) (b64 : b ≤ 64) (c64 : c ≤ 64) (d64 : d ≤ 64) where
   abbrev crew : List ℕ
@@ -190,23 +170,8 @@ module _ (a b c d : ℕ) (a64 : a ≤ 64) (b64 : b ≤ 64) (c64 : c ≤ 64) (d64
   short_at_work : 1 ≤ a → (counters : List ℕ) → length counters ≡ 64 → ShortAtWork bench table health crew (runs crew) counters
   short_at_work l counters wide = tight_where_shared_at_work bench table health crew (runs crew) counters 0 opened wide begin_low (some_cell l)
 
--- 64 of so many, and the rest
-pub record Part (k most : ℕ) : Type 0 where
-  pub here : ℕ
-  pub rest : ℕ
-  pub small : here ≤ 64
-  pub sum_is : here + rest ≡ k
-  pub rest_small : rest ≤ most
-  pub some : 1 ≤ k → 1 ≤ here
-
 part : (k most : ℕ) → k ≤ most + 64 → Part k most
 part k most l = record { here = min 64 k; rest = k - 64; small = omega arith; sum_is = omega arith; rest_small = omega arith; some = λ s. omega arith }
-
--- K in four parts of 64 at most
-pub record Parts (K : ℕ) : Type 0 where
-  pub x : Part K 192
-  pub y : Part x.rest 128
-  pub z : Part y.rest 64
 
 parts : (K : ℕ) → K ≤ 256 → Parts K
 parts K few =

@@ -1,5 +1,6 @@
 -- "All have held their whole lists": in demand 3's run there is, for each member with a cell, a moment at which the table shows every cell
 -- of its list held by the serial noted for it, all at once.
+-- ---- what is held shows in the table, after any turns in any arena: the cell at place k is held by the serial noted there
 use Prim.Native.Nat.{ℕ, ◌+◌, ◌*◌, ◌-◌, ◌≤◌, ◌<◌}
 use Rattle.std.specs.Prelude.{◌≡◌, ◌≢◌, length, get_or, set}
 use Rattle.std.proofs.Math.Path.{refl}
@@ -15,14 +16,15 @@ use Rattle.laws.specs.Words.{length_set_cell, Seen, here, there, see}
 use Rattle.laws.specs.Lists.{zeros}
 use Rattle.laws.specs.Crew.{adds_few, start_fits, member, listed}
 use Rattle.history.specs.Tests.{free_words, state_held}
-use Rattle.history.proofs.Crew.{one_place, Holds}
+use Rattle.history.specs.Crew.{Holds}
+use Rattle.history.proofs.Crew.{one_place}
 use Rattle.crew_theory.specs.Statements.{after, named, wish, last, to_take, Turn, idled, grabbed, summed, gave, TakenIsHeldOver}
 use Rattle.crew_theory.specs.Turns.{turn_is, Step, stays, steps, turn_steps}
 use Rattle.crew_theory.specs.Lists.{Fits, fits}
-use Rattle.crew_theory.proofs.Steady.{Made, mine, other, see_made}
+use Rattle.crew_theory.specs.Steady.{Made, mine, other}
+use Rattle.crew_theory.proofs.Steady.{see_made}
 use Rattle.crew_theory.proofs.Ended.{taken_at}
-
--- ---- what is held shows in the table, after any turns in any arena: the cell at place k is held by the serial noted there
+use Rattle.crew_theory.specs.Whole.{Which, new, old}
 
 pub record Grip (next : ℕ) (u cells serials : List ℕ) (k : ℕ) : Type 0 where
   pub bit_is : bit_at u (named cells k) ≡ 1
@@ -38,11 +40,6 @@ pub record Grips (work : Work) (words : ℕ) (counts cells : List ℕ) (next : �
   pub grip : (q j : ℕ) → Holds work counts made q j → Grip next u cells serials (start_of counts q + j)
   -- no cell is held twice
   pub apart : (q j p i : ℕ) → Holds work counts made q j → Holds work counts made p i → named cells (start_of counts q + j) ≡ named cells (start_of counts p + i) → (q ≡ p) × (j ≡ i)
-
--- what is held after a take of member m: the new one, or one that was held
-data Which (work : Work) (counts made : List ℕ) (m q j : ℕ) : Type 0 where
-  new : q ≡ m → j ≡ get_or made m 0 → Which work counts made m q j
-  old : Holds work counts made q j → (start_of counts q + j ≢ start_of counts m + get_or made m 0) → Which work counts made m q j
 
 -- whatever the arena and the turns
 module _ (work : Work) (h : Head) (words : ℕ) (counts cells : List ℕ) (fit : Fits h words counts cells) where

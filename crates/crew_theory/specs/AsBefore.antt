@@ -17,7 +17,7 @@ use Rattle.types.specs.declared.Reason.TheVariants as reason
 use Rattle.types.specs.declared.Take.{Take}
 use Rattle.types.specs.declared.Take.TheVariants as taking
 use Rattle.history.specs.Tests.{if_cases}
-use Rattle.history.proofs.Steps.{With}
+use Rattle.history.specs.Steps.{With}
 
 -- ---- the steps as they were
 

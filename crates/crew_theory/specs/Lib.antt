@@ -4,3 +4,8 @@ pub mod Sum
 pub mod Lists
 pub mod Turns
 pub mod AsBefore
+pub mod Alone
+pub mod Deeds
+pub mod Steady
+pub mod Tightness
+pub mod Whole

@@ -272,28 +272,28 @@ RoundMoves =
 -- ---- what a member did, by its own turns
 
 -- the cell of a take, a release or an add
-abbrev pub cell_of_lem : Event → ℕ
-cell_of_lem attempt_begun = 0
-cell_of_lem boundary_run = 0
-cell_of_lem yielded = 0
-cell_of_lem spun = 0
-cell_of_lem step_dropped = 0
-cell_of_lem (took a c s) = c
-cell_of_lem (released a c s) = c
-cell_of_lem (waiters_set c n) = 0
-cell_of_lem (health_set i n) = 0
-cell_of_lem (held_all_lem m) = 0
-cell_of_lem (added m c v) = c
+abbrev pub cell_of : Event → ℕ
+cell_of attempt_begun = 0
+cell_of boundary_run = 0
+cell_of yielded = 0
+cell_of spun = 0
+cell_of step_dropped = 0
+cell_of (took a c s) = c
+cell_of (released a c s) = c
+cell_of (waiters_set c n) = 0
+cell_of (health_set i n) = 0
+cell_of (held_all_lem m) = 0
+cell_of (added m c v) = c
 
 -- the cells of a log's takes, or of its releases, in their order
 unfoldable pub cells_in : Kind → List Event → List ℕ
 cells_in k [] = []
-cells_in k (e ∷ es) = if eqb (code (kind_of_lem e)) (code k) then cell_of_lem e ∷ cells_in k es else cells_in k es
+cells_in k (e ∷ es) = if eqb (code (kind_of_lem e)) (code k) then cell_of e ∷ cells_in k es else cells_in k es
 
 -- and of its adds
 unfoldable pub cells_added : List Event → List ℕ
 cells_added [] = []
-cells_added (e ∷ es) = if eqb (is_add e) 1 then cell_of_lem e ∷ cells_added es else cells_added es
+cells_added (e ∷ es) = if eqb (is_add e) 1 then cell_of e ∷ cells_added es else cells_added es
 
 -- the first n of a list, from the last of them to the first
 abbrev pub falling : ℕ → List ℕ → List ℕ

@@ -1,5 +1,6 @@
 -- Boot numbers (document 02, L8): no call and no foreign step changes the head's, and a call that is given a lease with another is refused; by 16
 -- exactly where such a lease stands and no check before it applies.
+-- ---- the head's own
 use Prim.Native.Nat.{ℕ, zero, suc, ◌+◌, ◌*◌, ◌≤◌, ◌<◌}
 use Rattle.std.proofs.Math.Path.{◌≡◌, refl, ap, subst}
 use Rattle.std.proofs.Common.{sym, ◌∙◌, ltb-true, ltb-false}
@@ -24,15 +25,14 @@ use Rattle.types.specs.declared.Refusal.{Refusal}
 use Rattle.types.specs.declared.Refusal.TheVariants.{BadBinding, StaleBoot}
 use Rattle.laws.specs.Checks.{or_else, first_append, first_hit, first_skip, fine_rest, fine_append, lease_in, lease_later, leases_at, leases_end}
 use Rattle.history.specs.World.{World}
-use Rattle.history.specs.Items.{Call, Says, unchanged, try_acquire_lem, drop_lease, read_permission, competing_acquire, release_then_handoff, foreign_release, drop_preserving, acquire_preserving, environment, try_lock_lem, transactional, acquire_bucket, release_all_lem, acquire_locks, acquire_sorted, crew, crew_at_work_lem, Among, NamesLease, Clear, rules, perform, foreign}
+use Rattle.history.specs.Items.{Call, Says, unchanged, try_acquire, drop_lease, read_permission, competing_acquire, release_then_handoff, foreign_release, drop_preserving, acquire_preserving, environment, try_lock, transactional, acquire_bucket, release_all, acquire_locks, acquire_sorted, crew, crew_at_work, Among, NamesLease, Clear, rules, perform, foreign}
 use Rattle.history.specs.Statements.{answers, log_of, Early, BootStays, BootStaysAlone, RefusedUnowned, RefusedStale, OneLease, Beside, releases_between, drops_beside, Listed, beside_release, beside_drop, beside_acquire, in_environment, in_lock, in_attempt, in_attempts, in_locks, in_sorted, to_release, scripted, keyed, held_before, Placed, alone, beside, listed, NamesPlaced, StaleIs16}
 use Rattle.history.specs.Tests.{differ}
 use Rattle.history.proofs.Logs.{boot_now}
 use Rattle.history.specs.Judged.{clear_fine, clear_front, clear_back, performed_by}
 use Rattle.history.proofs.Calls.{call_kept}
 use Rattle.history.specs.Refused.{past_checks_never}
-
--- ---- the head's own
+use Rattle.history.specs.Boots.{All, EarlyAll, Below16, Found, Somewhere}
 
 pub boots_stay : BootStays perform
 boots_stay w k = ap (λ (v : World). v.head.boot) (call_kept w k).kept.leads ∙ boot_now w (log_of w k)
@@ -61,7 +61,7 @@ module _ (h : Head) (t : List ℕ) where
 
 names_owned : (w : World) (k : Call) (l : Lease) → NamesLease k l → Clear (rules w k) → lease_live w.head w.table l ≡ true
 unfolding lease_rules held_cell_rules held_lease_rules script_rules lock_rules bucket_rules release_rules locks_rules
-names_owned w (try_acquire_lem c) l n k = absurd n
+names_owned w (try_acquire c) l n k = absurd n
 names_owned w (drop_lease m) l n k = owned w.head w.table m l n k.1.0 k.1.1.0
 names_owned w (read_permission m) l n k = owned w.head w.table m l n k.1.0 k.1.1.0
 names_owned w (competing_acquire m) l n k = owned w.head w.table m l n k.1.0 k.1.1.0
@@ -77,26 +77,19 @@ names_owned w (drop_preserving held m) l (inr a) k =
 names_owned w (acquire_preserving held c) l n k =
     held_owned w.head w.table 0 (leases_of held) l n (clear_front (bad_shape w.head w.table ∷ bad_held w.head w.table held) _ k).1.1
 names_owned w (environment script place held) l n k = held_owned w.head w.table 0 (leases_of held) l n k.1.1.1.1
-names_owned w (try_lock_lem script place held c) l n k =
+names_owned w (try_lock script place held c) l n k =
     held_owned w.head w.table 0 (leases_of held) l n (clear_front (script_rules w.head w.table w.health script place held) _ k).1.1.1.1
 names_owned w (transactional registry script place held binding bucket) l n k =
     held_owned w.head w.table 0 (leases_of held) l n (clear_front (bad_held w.head w.table held) _ k.1.1.1.1).1
 names_owned w (acquire_bucket registry script place held binding bucket) l n k =
     held_owned w.head w.table 0 (leases_of held) l n (clear_front (bad_held w.head w.table held) _ k.1.1.1.1).1
-names_owned w (release_all_lem script place leases) l n k = leases_owned w.head w.table 0 [] (leases_of leases) l n k.1.1.1.1
+names_owned w (release_all script place leases) l n k = leases_owned w.head w.table 0 [] (leases_of leases) l n k.1.1.1.1
 names_owned w (acquire_locks registry script place held keys grants) l n k =
     held_owned w.head w.table 0 (leases_of held) l n (clear_front (bad_held w.head w.table held) _ k.1.1.1.1).1
 names_owned w (acquire_sorted registry script place held keys grants) l n k =
     held_owned w.head w.table 0 (leases_of held) l n (clear_front (bad_held w.head w.table held) _ k.1.1.1.1).1
 names_owned w (crew counts cells turns) l n k = absurd n
-names_owned w (crew_at_work_lem counts cells turns counters) l n k = absurd n
-
--- ---- checks refuse early
-
--- what every check of a list refuses with, the first that applies does
-abbrev All : (Refusal → Type 0) → List Rule → Type 0
-All P [] = Unit {0}
-All P (r ∷ rs) = P (refusal_of r.number r.carries) × All P rs
+names_owned w (crew_at_work counts cells turns counters) l n k = absurd n
 
 module _ (P : Refusal → Type 0) where
   all_first : (rs : List Rule) → All P rs → (x : Refusal) → first rs ≡ Fault x → P x
@@ -117,9 +110,6 @@ module _ (P : Refusal → Type 0) where
   bindings_all a zero i registry keys = tt
   bindings_all a (suc left) i registry keys = (a i, bindings_all a left (i + 1) registry keys)
 
-abbrev EarlyAll : Call → List Rule → Type 0
-EarlyAll k = All (Early k)
-
 module _ (k : Call) where
   live_early : (h : Head) (t : List ℕ) (i : ℕ) (ls : List Lease) → EarlyAll k (not_live h t i ls)
   unfolding not_live
@@ -137,7 +127,7 @@ module _ (k : Call) where
 
 rules_early : (w : World) (k : Call) (l : Lease) → NamesLease k l → EarlyAll k (rules w k)
 unfolding lease_rules held_cell_rules held_lease_rules script_rules lock_rules bucket_rules release_rules locks_rules
-rules_early w (try_acquire_lem c) l n = absurd n
+rules_early w (try_acquire c) l n = absurd n
 rules_early w (drop_lease m) l n = (inl (omega arith), (inr (inr (omega arith)), (inr (inr (omega arith)), tt)))
 rules_early w (read_permission m) l n = (inl (omega arith), (inr (inr (omega arith)), (inr (inr (omega arith)), tt)))
 rules_early w (competing_acquire m) l n = (inl (omega arith), (inr (inr (omega arith)), (inr (inr (omega arith)), tt)))
@@ -160,8 +150,8 @@ rules_early w (acquire_preserving held c) l n =
 rules_early w (environment script place held) l n =
     let k = environment script place held in
     (inl (omega arith), (inl (omega arith), (inl (omega arith), held_early k w.head w.table held)))
-rules_early w (try_lock_lem script place held c) l n =
-    let k = try_lock_lem script place held c in
+rules_early w (try_lock script place held c) l n =
+    let k = try_lock script place held c in
     all_append (Early k) (script_rules w.head w.table w.health script place held) _
     (inl (omega arith), (inl (omega arith), (inl (omega arith), held_early k w.head w.table held))) (inr (inl (omega arith, tt)), tt)
 rules_early w (transactional registry script place held binding bucket) l n =
@@ -192,8 +182,8 @@ rules_early w (acquire_bucket registry script place held binding bucket) l n =
         ),
       ),
     )
-rules_early w (release_all_lem script place leases) l n =
-    let k = release_all_lem script place leases in
+rules_early w (release_all script place leases) l n =
+    let k = release_all script place leases in
     (inl (omega arith), (inl (omega arith), (inl (omega arith), (inl (omega arith), release_early k w.head w.table 0 [] (leases_of leases)))))
 rules_early w (acquire_locks registry script place held keys grants) l n =
     let k = acquire_locks registry script place held keys grants in (
@@ -224,7 +214,7 @@ rules_early w (acquire_sorted registry script place held keys grants) l n =
       ),
     )
 rules_early w (crew counts cells turns) l n = absurd n
-rules_early w (crew_at_work_lem counts cells turns counters) l n = absurd n
+rules_early w (crew_at_work counts cells turns counters) l n = absurd n
 
 pub unowned_refused : RefusedUnowned perform
 unowned_refused w k l n x =
@@ -300,7 +290,7 @@ held_hit w front rest held i b f s =
     (first_skip (bad_held_length held) _ y.0 ∙ live_hit w.head w.table 0 held i b y.1 s ∙ ap (λ (p : ℕ). Fault (StaleBoot p)) z)
 
 hit_alone : (w : World) (k : Call) (l : Lease) → OneLease k l → first (bad_shape w.head w.table ∷ []) ≡ Fine → is_stale w.head l ≡ true → first (rules w k) ≡ Fault (StaleBoot 0)
-hit_alone w (try_acquire_lem c) l o f s = absurd o
+hit_alone w (try_acquire c) l o f s = absurd o
 hit_alone w (drop_lease m) l o f s = one_hit w m f (ap (λ (x : Lease). is_stale w.head x) o ∙ s)
 hit_alone w (read_permission m) l o f s = one_hit w m f (ap (λ (x : Lease). is_stale w.head x) o ∙ s)
 hit_alone w (competing_acquire m) l o f s = one_hit w m f (ap (λ (x : Lease). is_stale w.head x) o ∙ s)
@@ -309,14 +299,14 @@ hit_alone w (foreign_release held m) l o f s = absurd o
 hit_alone w (drop_preserving held m) l o f s = absurd o
 hit_alone w (acquire_preserving held c) l o f s = absurd o
 hit_alone w (environment script place held) l o f s = absurd o
-hit_alone w (try_lock_lem script place held c) l o f s = absurd o
+hit_alone w (try_lock script place held c) l o f s = absurd o
 hit_alone w (transactional registry script place held binding bucket) l o f s = absurd o
 hit_alone w (acquire_bucket registry script place held binding bucket) l o f s = absurd o
-hit_alone w (release_all_lem script place leases) l o f s = absurd o
+hit_alone w (release_all script place leases) l o f s = absurd o
 hit_alone w (acquire_locks registry script place held keys grants) l o f s = absurd o
 hit_alone w (acquire_sorted registry script place held keys grants) l o f s = absurd o
 hit_alone w (crew counts cells turns) l o f s = absurd o
-hit_alone w (crew_at_work_lem counts cells turns counters) l o f s = absurd o
+hit_alone w (crew_at_work counts cells turns counters) l o f s = absurd o
 
 hit_beside : (w : World) (k : Call) (held : List ℕ) (l : Lease) → Beside k held l
     → first (bad_shape w.head w.table ∷ bad_held w.head w.table held) ≡ Fine → is_stale w.head l ≡ true → first (rules w k) ≡ Fault (StaleBoot 0)
@@ -357,10 +347,6 @@ refused_by : (w : World) (k : Call) (r : Refusal) → Early k r → answers w k 
 refused_by w k r early =
     performed_by (λ (m : Made (World × Says)). m.seen.1.answer ≡ Refused r → first (rules w k) ≡ Fault r) w k
     (λ x e q. let z : x ≡ r = cc in e ∙ ap Fault z) (λ _ q. absurd (past_checks_never w k r q early))
-
--- checks of other numbers
-abbrev Below16 : List Rule → Type 0
-Below16 = All (λ (r : Refusal). number_of r < 16)
 
 none_16 : (rs : List Rule) (p : ℕ) → Below16 rs → first rs ≡ Fault (StaleBoot p) → ⊥
 none_16 rs p a e = let z : 16 < 16 = all_first (λ (r : Refusal). number_of r < 16) rs a (StaleBoot p) e in omega arith
@@ -447,10 +433,6 @@ module _ (h : Head) (t : List ℕ) where
             )
       ]
 
--- a place of the call where a stale lease stands, behind checks that are fine
-abbrev Found : World → Call → ℕ → Type 0
-Found w k i = (l : Lease) × (ahead : List Rule) × Placed w k l ahead i × (first ahead ≡ Fine) × (is_stale w.head l ≡ true)
-
 listed_found : (w : World) (k : Call) (leases : List ℕ) (ahead : ℕ → List Rule) (p : ℕ) → Listed w k leases ahead → StaleAt w.head ahead 0 leases p → Found w k p
 listed_found w k leases ahead p o m =
     let e : m.0 ≡ p = omega (arith, m.1) in
@@ -511,7 +493,7 @@ plan_below h counts cells turns =
 
 stale_found : (w : World) (k : Call) (p : ℕ) → first (rules w k) ≡ Fault (StaleBoot p) → Found w k p
 unfolding cell_rules held_cell_rules script_rules lock_rules bucket_rules release_rules locks_rules crew_rules crew_at_work_rules
-stale_found w (try_acquire_lem c) p e = absurd (none_16 (rules w (try_acquire_lem c)) p (omega arith, (omega arith, tt)) e)
+stale_found w (try_acquire c) p e = absurd (none_16 (rules w (try_acquire c)) p (omega arith, (omega arith, tt)) e)
 stale_found w (drop_lease l) p e = alone_found w (drop_lease l) l p refl e
 stale_found w (read_permission l) p e = alone_found w (read_permission l) l p refl e
 stale_found w (competing_acquire l) p e = alone_found w (competing_acquire l) l p refl e
@@ -524,19 +506,19 @@ stale_found w (acquire_preserving held c) p e =
 stale_found w (environment script place held) p e =
     listed_found w (environment script place held) held _ p (in_environment script place held)
     (held_found w (scripted w script place) held p (omega arith, (omega arith, (omega arith, tt))) e)
-stale_found w (try_lock_lem script place held c) p e =
-    listed_found w (try_lock_lem script place held c) held _ p (in_lock script place held c)
+stale_found w (try_lock script place held c) p e =
+    listed_found w (try_lock script place held c) held _ p (in_lock script place held c)
     (held_found w (scripted w script place) held p (omega arith, (omega arith, (omega arith, tt)))
     (ahead_of (script_rules w.head w.table w.health script place held) (bad_cell w.head c ∷ []) p (omega arith, tt) e))
 stale_found w (transactional registry script place held binding bucket) p e =
     keyed_found w (transactional registry script place held binding bucket) registry script place held _ p (in_attempt registry script place held binding bucket) (omega arith, tt) e
 stale_found w (acquire_bucket registry script place held binding bucket) p e =
     keyed_found w (acquire_bucket registry script place held binding bucket) registry script place held _ p (in_attempts registry script place held binding bucket) (omega arith, tt) e
-stale_found w (release_all_lem script place leases) p e =
+stale_found w (release_all script place leases) p e =
     let x = past (scripted w script place) _ p (omega arith, (omega arith, (omega arith, tt))) e in
     let y = past (too_many_leases leases ∷ []) _ p (omega arith, tt) x.1 in
     let m = release_found w.head w.table 0 [] leases p y.1 in
-    listed_found w (release_all_lem script place leases) leases _ p (to_release script place leases)
+    listed_found w (release_all script place leases) leases _ p (to_release script place leases)
     (m.0, m.1, m.2, behind (scripted w script place) _ x.0 ∙ behind (too_many_leases leases ∷ []) _ y.0 ∙ m.3, m.4)
 stale_found w (acquire_locks registry script place held keys grants) p e =
     keyed_found w (acquire_locks registry script place held keys grants) registry script place held _ p (in_locks registry script place held keys grants) (keys_below registry held keys grants) e
@@ -544,8 +526,8 @@ stale_found w (acquire_sorted registry script place held keys grants) p e =
     keyed_found w (acquire_sorted registry script place held keys grants) registry script place held _ p (in_sorted registry script place held keys grants) (keys_below registry held keys grants) e
 stale_found w (crew counts cells turns) p e =
     absurd (none_16 (rules w (crew counts cells turns)) p (omega arith, (omega arith, plan_below w.head counts cells turns)) e)
-stale_found w (crew_at_work_lem counts cells turns counters) p e =
-    absurd (none_16 (rules w (crew_at_work_lem counts cells turns counters)) p (omega arith, (omega arith, (omega arith, plan_below w.head counts cells turns))) e)
+stale_found w (crew_at_work counts cells turns counters) p e =
+    absurd (none_16 (rules w (crew_at_work counts cells turns counters)) p (omega arith, (omega arith, (omega arith, plan_below w.head counts cells turns))) e)
 
 pub stale_is_16 : StaleIs16 perform
 stale_is_16 w k i = (
@@ -581,10 +563,6 @@ at_among (c ∷ d ∷ []) i b = absurd (omega arith)
 at_among (c ∷ d ∷ e ∷ ws) zero b = inl refl
 at_among (c ∷ d ∷ e ∷ ws) (suc i) b = inr (subst (λ (l : Lease). Among l (leases_of ws)) (sym (lease_later c d e ws i)) (at_among ws i (omega arith)))
 
--- the call is given the lease in some place
-abbrev Somewhere : World → Call → Lease → Type 0
-Somewhere w k l = (ahead : List Rule) × (i : ℕ) × Placed w k l ahead i
-
 listed_somewhere : (w : World) (k : Call) (leases : List ℕ) (ahead : ℕ → List Rule) (l : Lease) → Listed w k leases ahead → Among l (leases_of leases) → Somewhere w k l
 listed_somewhere w k leases ahead l o x =
     let p = among_at (length leases) 0 leases l (omega arith) x in
@@ -594,7 +572,7 @@ beside_somewhere : (w : World) (k : Call) (held : List ℕ) (m l : Lease) → Be
 beside_somewhere w k held m l o e = subst (Somewhere w k) e (_, 0, beside held o)
 
 placed_names : (w : World) (k : Call) (l : Lease) → NamesLease k l → Somewhere w k l
-placed_names w (try_acquire_lem c) l n = absurd n
+placed_names w (try_acquire c) l n = absurd n
 placed_names w (drop_lease m) l n = (_, 0, alone n)
 placed_names w (read_permission m) l n = (_, 0, alone n)
 placed_names w (competing_acquire m) l n = (_, 0, alone n)
@@ -605,21 +583,21 @@ placed_names w (drop_preserving held m) l (inl e) = beside_somewhere w (drop_pre
 placed_names w (drop_preserving held m) l (inr x) = listed_somewhere w (drop_preserving held m) held _ l (beside_drop held m) x
 placed_names w (acquire_preserving held c) l x = listed_somewhere w (acquire_preserving held c) held _ l (beside_acquire held c) x
 placed_names w (environment script place held) l x = listed_somewhere w (environment script place held) held _ l (in_environment script place held) x
-placed_names w (try_lock_lem script place held c) l x = listed_somewhere w (try_lock_lem script place held c) held _ l (in_lock script place held c) x
+placed_names w (try_lock script place held c) l x = listed_somewhere w (try_lock script place held c) held _ l (in_lock script place held c) x
 placed_names w (transactional registry script place held binding bucket) l x =
     listed_somewhere w (transactional registry script place held binding bucket) held _ l (in_attempt registry script place held binding bucket) x
 placed_names w (acquire_bucket registry script place held binding bucket) l x =
     listed_somewhere w (acquire_bucket registry script place held binding bucket) held _ l (in_attempts registry script place held binding bucket) x
-placed_names w (release_all_lem script place leases) l x = listed_somewhere w (release_all_lem script place leases) leases _ l (to_release script place leases) x
+placed_names w (release_all script place leases) l x = listed_somewhere w (release_all script place leases) leases _ l (to_release script place leases) x
 placed_names w (acquire_locks registry script place held keys grants) l x =
     listed_somewhere w (acquire_locks registry script place held keys grants) held _ l (in_locks registry script place held keys grants) x
 placed_names w (acquire_sorted registry script place held keys grants) l x =
     listed_somewhere w (acquire_sorted registry script place held keys grants) held _ l (in_sorted registry script place held keys grants) x
 placed_names w (crew counts cells turns) l n = absurd n
-placed_names w (crew_at_work_lem counts cells turns counters) l n = absurd n
+placed_names w (crew_at_work counts cells turns counters) l n = absurd n
 
 alone_named : (k : Call) (l : Lease) → OneLease k l → NamesLease k l
-alone_named (try_acquire_lem c) l o = o
+alone_named (try_acquire c) l o = o
 alone_named (drop_lease m) l o = o
 alone_named (read_permission m) l o = o
 alone_named (competing_acquire m) l o = o
@@ -628,14 +606,14 @@ alone_named (foreign_release held m) l o = absurd o
 alone_named (drop_preserving held m) l o = absurd o
 alone_named (acquire_preserving held c) l o = absurd o
 alone_named (environment script place held) l o = absurd o
-alone_named (try_lock_lem script place held c) l o = absurd o
+alone_named (try_lock script place held c) l o = absurd o
 alone_named (transactional registry script place held binding bucket) l o = absurd o
 alone_named (acquire_bucket registry script place held binding bucket) l o = absurd o
-alone_named (release_all_lem script place leases) l o = absurd o
+alone_named (release_all script place leases) l o = absurd o
 alone_named (acquire_locks registry script place held keys grants) l o = absurd o
 alone_named (acquire_sorted registry script place held keys grants) l o = absurd o
 alone_named (crew counts cells turns) l o = o
-alone_named (crew_at_work_lem counts cells turns counters) l o = o
+alone_named (crew_at_work counts cells turns counters) l o = o
 
 beside_named : (k : Call) (held : List ℕ) (l : Lease) → Beside k held l → NamesLease k l
 beside_named _ held l (releases_between _ _) = inl refl

@@ -1,5 +1,6 @@
 -- Which cells grants name: the cell that was asked for, by key the key's own; in the grant buffer, at each position that of the key there.
 -- which order leases are given back. What stands in quotes is of document 01.
+-- ---- which cell a grant names
 use Prim.Native.Nat.{ℕ, zero, suc, ◌+◌, ◌*◌, ◌<◌}
 use Rattle.std.proofs.Math.Path.{◌≡◌}
 use Rattle.std.specs.Prelude.{refl, leb, length}
@@ -35,17 +36,12 @@ use Rattle.laws.specs.Checks.{lease_in}
 use Rattle.laws.specs.Lists.{length_words, words_back}
 use Rattle.laws.specs.Outcomes.{Comes, granted, busy, poisoned, damaged, spent, lock_comes}
 use Rattle.history.specs.World.{World}
-use Rattle.history.specs.Items.{Call, Says, try_acquire_lem, drop_lease, read_permission, competing_acquire, release_then_handoff, foreign_release, drop_preserving, acquire_preserving, environment, try_lock_lem, transactional, acquire_bucket, release_all_lem, acquire_locks, acquire_sorted, crew, crew_at_work_lem, perform, asked, cell_of, key_cell}
+use Rattle.history.specs.Items.{Call, Says, try_acquire, drop_lease, read_permission, competing_acquire, release_then_handoff, foreign_release, drop_preserving, acquire_preserving, environment, try_lock, transactional, acquire_bucket, release_all, acquire_locks, acquire_sorted, crew, crew_at_work, perform, asked, cell_of, key_cell}
 use Rattle.history.specs.Statements.{GrantIs}
 use Rattle.history.specs.Tests.{words_boot}
 use Rattle.history.specs.Judged.{acting, past_checks, performed, judged_at}
-use Rattle.history.proofs.Steps.{With}
-
--- ---- which cell a grant names
-
--- what is granted of cell c
-abbrev pub Names : ℕ → Outcome → Type 0
-Names c o = (l : Hold) → o ≡ outcome.Granted l → l.cell ≡ c
+use Rattle.history.specs.Steps.{With}
+use Rattle.history.specs.ByKey.{Names, FoundAt}
 
 take_names : (c : ℕ) (x : Take) → Names c (outcome_of c x)
 take_names c (taking.Granted s) l e = let y : hold_of c s ≡ l = cc in sym (ap (λ (k : Hold). k.cell) y)
@@ -59,11 +55,6 @@ lock_names (busy why) l e = let z : ◌≡◌ {A = ℕ} 0 1 = cc in absurd (omeg
 lock_names (poisoned h) l e = let z : ◌≡◌ {A = ℕ} 0 1 = cc in absurd (omega arith)
 lock_names damaged l e = let z : ◌≡◌ {A = ℕ} 0 1 = cc in absurd (omega arith)
 lock_names spent l e = let z : ◌≡◌ {A = ℕ} 0 1 = cc in absurd (omega arith)
-
--- the cell that a key was found to name, if it names one
-abbrev pub FoundAt : ℕ → Found → Type 0
-FoundAt c (found.Fault r) = Unit {0}
-FoundAt c (found.At d) = d ≡ c
 
 module _ (e : Setting) (buckets : ℕ) (registry : List ℕ) (binding bucket : ℕ) where
   abbrev own : ℕ
@@ -130,7 +121,7 @@ locks_all (suc left) p e buckets boot registry keys taken r t g grants l a =
 
 past_checks_names : (w : World) (k : Call) (l : Lease) → (past_checks w k).seen.1.answer ≡ Granted l → (l.cell ≡ asked w k) × (l.boot ≡ w.head.boot)
 unfolding acquire_of
-past_checks_names w (try_acquire_lem c) l a = acquire_names 1 w.head w.table c l a
+past_checks_names w (try_acquire c) l a = acquire_names 1 w.head w.table c l a
 past_checks_names w (drop_lease m) l a = let z : ◌≡◌ {A = ℕ} 0 1 = cc in absurd (omega arith)
 past_checks_names w (read_permission m) l a = let z : ◌≡◌ {A = ℕ} 0 1 = cc in absurd (omega arith)
 past_checks_names w (competing_acquire m) l a = acquire_names 1 w.head w.table m.cell l a
@@ -141,8 +132,8 @@ past_checks_names w (foreign_release held m) l a =
 past_checks_names w (drop_preserving held m) l a = let z : ◌≡◌ {A = ℕ} 0 1 = cc in absurd (omega arith)
 past_checks_names w (acquire_preserving held c) l a = acquire_names 1 w.head w.table c l a
 past_checks_names w (environment script place held) l a = let z : ◌≡◌ {A = ℕ} 0 1 = cc in absurd (omega arith)
-past_checks_names w (try_lock_lem script place held c) l a =
-    let e = acting w (try_lock_lem script place held c) in
+past_checks_names w (try_lock script place held c) l a =
+    let e = acting w (try_lock script place held c) in
     let f = flow_of w.head.next place 0 in
     answer_names w.head.boot c (lock_of e w.head.buckets f w.table w.health c).seen.0.answer (lock_names (lock_comes e w.head.buckets c f w.table w.health)) l a
 past_checks_names w (transactional registry script place held binding bucket) l a =
@@ -153,7 +144,7 @@ past_checks_names w (acquire_bucket registry script place held binding bucket) l
     let e = acting w (acquire_bucket registry script place held binding bucket) in
     settled_names w.head.boot _ (retry_of attempt_limit 0 none_yet e w.head.buckets registry binding bucket (starting w.head place) w.table w.health).seen.0.outcome
     (retry_names e w.head.buckets registry binding bucket attempt_limit 0 none_yet (starting w.head place) w.table w.health) l a
-past_checks_names w (release_all_lem script place leases) l a = let z : ◌≡◌ {A = ℕ} 0 1 = cc in absurd (omega arith)
+past_checks_names w (release_all script place leases) l a = let z : ◌≡◌ {A = ℕ} 0 1 = cc in absurd (omega arith)
 past_checks_names w (acquire_locks registry script place held keys grants) l a =
     let e = acting w (acquire_locks registry script place held keys grants) in
     absurd (locks_all (count_in keys) 0 e w.head.buckets w.head.boot registry keys [] (starting w.head place) w.table w.health grants l a)
@@ -174,7 +165,7 @@ past_checks_names w (acquire_sorted registry script place held keys grants) l a 
     none asked sorted (Refused r) n a = let z : ◌≡◌ {A = ℕ} 0 1 = cc in omega arith
     none asked sorted (RefusedAt r p) n a = let z : ◌≡◌ {A = ℕ} 0 1 = cc in omega arith
 past_checks_names w (crew counts cells turns) l a = let z : ◌≡◌ {A = ℕ} 0 1 = cc in absurd (omega arith)
-past_checks_names w (crew_at_work_lem counts cells turns counters) l a = let z : ◌≡◌ {A = ℕ} 0 1 = cc in absurd (omega arith)
+past_checks_names w (crew_at_work counts cells turns counters) l a = let z : ◌≡◌ {A = ℕ} 0 1 = cc in absurd (omega arith)
 
 pub grants_name : GrantIs perform
 grants_name w k l =

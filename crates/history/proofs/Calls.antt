@@ -21,14 +21,17 @@ use Rattle.types.specs.declared.Outcome.{Outcome}
 use Rattle.laws.specs.Shape.{shaped}
 use Rattle.laws.specs.Lists.{holds_are, as_many}
 use Rattle.history.specs.World.{World, world_of, cells, Live, Lawful, Unreleased, now}
-use Rattle.history.specs.Items.{Call, Says, try_acquire_lem, drop_lease, read_permission, competing_acquire, release_then_handoff, foreign_release, drop_preserving, acquire_preserving, environment, try_lock_lem, transactional, acquire_bucket, release_all_lem, acquire_locks, acquire_sorted, crew, crew_at_work_lem, perform, held_of, Clear, rules}
+use Rattle.history.specs.Items.{Call, Says, try_acquire, drop_lease, read_permission, competing_acquire, release_then_handoff, foreign_release, drop_preserving, acquire_preserving, environment, try_lock, transactional, acquire_bucket, release_all, acquire_locks, acquire_sorted, crew, crew_at_work, perform, held_of, Clear, rules}
 use Rattle.history.specs.Statements.{HandsOver, HeldLive, log_of}
 use Rattle.history.specs.Tests.{differ, In, in_take}
 use Rattle.history.specs.Events.{Fit, lives, good}
-use Rattle.history.proofs.Logs.{Kept, nothing, event, kept_fit, kept_live, weaken, chain, ended, lawful_split, unreleased_front, keep_now}
+use Rattle.history.specs.Logs.{Kept}
+use Rattle.history.proofs.Logs.{nothing, event, kept_fit, kept_live, weaken, chain, ended, lawful_split, unreleased_front, keep_now}
 use Rattle.history.specs.Judged.{clear_back, judged_at, reply, seen_as, past_checks, performed}
-use Rattle.history.proofs.Steps.{Gains, followed, Won, won, won_of, none_yet_lem, no_more, boundary_kept, take_kept, lock_kept, attempt_kept, retry_kept}
-use Rattle.history.proofs.Many.{Held, Taken, give_back_kept, locks_kept}
+use Rattle.history.specs.Steps.{Won, won, none_yet_lem, no_more}
+use Rattle.history.proofs.Steps.{Gains, followed, won_of, boundary_kept, take_kept, lock_kept, attempt_kept, retry_kept}
+use Rattle.history.specs.Many.{Held, Taken}
+use Rattle.history.proofs.Many.{give_back_kept, locks_kept}
 use Rattle.history.proofs.Crew.{crew_kept, crew_plan, crew_at_work_plan}
 use Rattle.history.proofs.Shared.{handed_inner}
 
@@ -127,7 +130,7 @@ none_taken w =
 
 past_checks_kept : (w : World) (k : Call) → Fit w → Clear (rules w k) → Said w (In (held_of k)) (past_checks w k)
 unfolding cell_rules lease_rules held_cell_rules held_lease_rules lock_rules release_rules is_in acquire_of
-past_checks_kept w (try_acquire_lem c) g k = acquire_kept w g (In []) 1 c (leb-false (cells w) c k.1.0)
+past_checks_kept w (try_acquire c) g k = acquire_kept w g (In []) 1 c (leb-false (cells w) c k.1.0)
 past_checks_kept w (drop_lease l) g k = record { kept = release_kept w g (In []) (hold_in l) (is_live_lem w g (hold_in l) k.1.1.0) (λ _ i _. differ i); gain = λ l x. absurd x }
 past_checks_kept w (read_permission l) g k = record { kept = nothing; gain = λ l x. absurd x }
 past_checks_kept w (competing_acquire l) g k = acquire_kept w g (In []) 1 l.cell (inside w g (hold_in l) k.1.1.0)
@@ -150,7 +153,7 @@ past_checks_kept w (acquire_preserving held c) g k =
     acquire_kept w g (In (holds_of held)) 1 c (leb-false (cells w) c (clear_back (bad_shape w.head w.table ∷ bad_held w.head w.table held) _ k).0)
 past_checks_kept w (environment script place held) g k =
     record { kept = (boundary_kept w.head script (holds_of held) (flow_of w.head.next place 0) w.table w.health g).kept; gain = λ l x. absurd x }
-past_checks_kept w (try_lock_lem script place held c) g k =
+past_checks_kept w (try_lock script place held c) g k =
     let inside = (clear_back (script_rules w.head w.table w.health script place held) (bad_cell w.head c ∷ []) k).0 in
     let m = lock_kept w.head script (holds_of held) (flow_of w.head.next place 0) w.table w.health c g (leb-false (cells w) c inside) in
     record { kept = chain g (event attempt_begun tt (λ l i v x. x)) m.kept; gain = live_won w.head.boot (won_of m.gain) }
@@ -160,7 +163,7 @@ past_checks_kept w (transactional registry script place held binding bucket) g k
 past_checks_kept w (acquire_bucket registry script place held binding bucket) g k =
     let m = retry_kept w.head script attempt_limit 0 none_yet (holds_of held) registry binding bucket (starting w.head place) w.table w.health g in
     record { kept = m.kept; gain = live_settled w.head.boot m.gain }
-past_checks_kept w (release_all_lem script place leases) g k =
+past_checks_kept w (release_all script place leases) g k =
     let held = releasable w.head w.table w.health (lease_count leases) leases (omega (arith, words_leases leases)) k.1.1.1.1 in
     let m = give_back_kept w.head script (lease_count leases) [] (holds_of leases) (starting w.head place) w.table w.health g held in
     record { kept = weaken (λ l i v. absurd (differ i)) m.kept; gain = λ l x. absurd x }
@@ -175,7 +178,7 @@ past_checks_kept w (acquire_sorted registry script place held keys grants) g k =
     (λ _. record { kept = weaken (λ l i v. (i, (lives w l v).high)) m.kept; gain = λ l x. m.gain l (handed_inner w registry script place held keys grants l x) })
 past_checks_kept w (crew counts lists turns) g k =
     record { kept = crew_kept rests w.head w.table w.health counts lists turns [] g (crew_plan _ _ _ counts lists turns k); gain = λ l x. absurd x }
-past_checks_kept w (crew_at_work_lem counts lists turns counters) g k =
+past_checks_kept w (crew_at_work counts lists turns counters) g k =
     record { kept = crew_kept adds w.head w.table w.health counts lists turns counters g (crew_at_work_plan _ _ _ counts lists turns counters k); gain = λ l x. absurd x }
 
 -- the first check of every call is the shape
@@ -184,7 +187,7 @@ unfolding cell_rules lease_rules held_cell_rules held_lease_rules script_rules l
 clear_fit w k c = record { shape = shaped w.head (length w.table) (not-false (shape_fits w.head (length w.table)) (first_clear k c)) }
   where
     first_clear : (k : Call) → Clear (rules w k) → not (shape_fits w.head (length w.table)) ≡ false
-    first_clear (try_acquire_lem c) k = k.0
+    first_clear (try_acquire c) k = k.0
     first_clear (drop_lease l) k = k.0
     first_clear (read_permission l) k = k.0
     first_clear (competing_acquire l) k = k.0
@@ -193,14 +196,14 @@ clear_fit w k c = record { shape = shaped w.head (length w.table) (not-false (sh
     first_clear (drop_preserving held l) k = k.0
     first_clear (acquire_preserving held c) k = k.0
     first_clear (environment script place held) k = k.0
-    first_clear (try_lock_lem script place held c) k = k.0
+    first_clear (try_lock script place held c) k = k.0
     first_clear (transactional registry script place held binding bucket) k = k.0
     first_clear (acquire_bucket registry script place held binding bucket) k = k.0
-    first_clear (release_all_lem script place leases) k = k.0
+    first_clear (release_all script place leases) k = k.0
     first_clear (acquire_locks registry script place held keys grants) k = k.0
     first_clear (acquire_sorted registry script place held keys grants) k = k.0
     first_clear (crew counts lists turns) k = k.0
-    first_clear (crew_at_work_lem counts lists turns counters) k = k.0
+    first_clear (crew_at_work counts lists turns counters) k = k.0
 
 -- a call whose shape does not fit does nothing
 pub call_fit : (w : World) (k : Call) → (log_of w k ≡ []) ⊎ Fit w

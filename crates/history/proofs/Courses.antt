@@ -22,7 +22,8 @@ use Rattle.history.specs.Items.{Says, saying, foreign, Item, call, foreign_step,
 use Rattle.history.specs.Statements.{Begins, Fresh, Begun, by_preparation, by_salvage, NoStart, Ledger, Demand2, SoundIfApart, PreparedFresh, PreparedSound, PreparedCounted, Prepares, own_runs, other_runs, PreparedBegins, Forgets, RefusedStays, SalvageRefusedStays}
 use Rattle.history.specs.Tests.{free, In}
 use Rattle.history.specs.Events.{Good, fit, lives, whole, counts}
-use Rattle.history.proofs.Logs.{now_append, lawful_append, lawful_split, good_now, apart_now, arena_now, next_now, bits_now, keep_now, spent_now, Kept, ended, nothing}
+use Rattle.history.specs.Logs.{Kept}
+use Rattle.history.proofs.Logs.{now_append, lawful_append, lawful_split, good_now, apart_now, arena_now, next_now, bits_now, keep_now, spent_now, ended, nothing}
 use Rattle.history.proofs.Steps.{step_kept}
 use Rattle.history.proofs.Calls.{call_kept}
 use Rattle.history.specs.Salvages.{Came as SalvagesCame, bad, full, done, came as salvage_came, mended_good}

@@ -1,4 +1,5 @@
 -- The crew, in either work: whatever the turns, each lease that a member noted and has not released is live, and no two of them are the same.
+-- ---- the places of the lists
 use Rattle.std.specs.Prelude.{ℕ, zero, suc, ◌+◌, ◌-◌, ◌≤◌, ◌<◌, ◌≡◌, Bool, ltb, leb, eqb, length, set, replicate, if◌then◌else◌}
 use Rattle.std.proofs.Math.Path.{refl, ap}
 use Rattle.std.proofs.Common.{sym, ◌∙◌, subst, length-set, get_or-set_same, get_or-set_other}
@@ -28,11 +29,12 @@ use Rattle.history.specs.World.{World, world_of, Live, Unreleased}
 use Rattle.history.specs.Items.{Clear}
 use Rattle.history.specs.Tests.{differ, In, in_first, if_cases}
 use Rattle.history.specs.Events.{Fit, lives}
-use Rattle.history.proofs.Logs.{Kept, nothing, event, kept_fit, kept_live, weaken, ended}
+use Rattle.history.specs.Logs.{Kept}
+use Rattle.history.proofs.Logs.{nothing, event, kept_fit, kept_live, weaken, ended}
 use Rattle.history.specs.Judged.{clear_front, clear_fine}
-use Rattle.history.proofs.Steps.{world_at, Gains, followed, With, Gained, gained, was_busy, was_refused, lock_kept}
-
--- ---- the places of the lists
+use Rattle.history.specs.Steps.{world_at, With, Gained, gained, was_busy, was_refused}
+use Rattle.history.proofs.Steps.{Gains, followed, lock_kept}
+use Rattle.history.specs.Crew.{Limits, Holds, noted, Safe, Moves, Noted, mine, other, new_one, old_one}
 
 start_rises : (counts : List ℕ) (m k : ℕ) → m < k → start_of counts m + count_of counts m ≤ start_of counts k
 unfolding start_of total
@@ -50,13 +52,6 @@ one_place counts m j k i a b e = go (dec_lt m k) (dec_lt k m)
     go (yes p) q = absurd (omega (arith, start_rises counts m k p))
     go (no p) (yes q) = absurd (omega (arith, start_rises counts k m q))
     go (no p) (no q) = let s : m ≡ k = omega arith in (s, omega (arith, ap (start_of counts) s))
-
--- ---- what the checks say
-
-pub record Limits (h : Head) (counts cells : List ℕ) : Type 0 where
-  pub members : length counts ≤ 16
-  pub small : total counts ≤ 256
-  pub inside : (m j : ℕ) → j < count_of counts m → get_or cells (start_of counts m + j) 0 < cells_of h
 
 pub limits : (h : Head) (counts cells turns : List ℕ) → Clear (plan_rules h counts cells turns) → Limits h counts cells
 limits h counts cells turns c =
@@ -77,44 +72,12 @@ pub crew_at_work_plan : (h : Head) (t g counts cells turns counters : List ℕ) 
 unfolding crew_at_work_rules
 crew_at_work_plan h t g counts cells turns counters c = c.1.1.1
 
--- ---- who holds what
-
--- the j-th cell of a member is held: taken, and not yet released
-abbrev pub Holds : Work → List ℕ → List ℕ → ℕ → ℕ → Type 0
-Holds work counts made m j = (j < count_of counts m) × (j < get_or made m 0) × (j + get_or made m 0 < moves_of work (count_of counts m))
-
--- the lease noted at a place
-abbrev pub noted : List ℕ → List ℕ → ℕ → Hold
-noted cells serials k = hold_of (get_or cells k 0) (get_or serials k 0)
-
-pub record Safe (work : Work) (counts cells : List ℕ) (w : World) (made serials : List ℕ) : Type 0 where
-  pub good : Fit w
-  pub many_members : length made ≡ 16
-  pub many_places : length serials ≡ 256
-  pub holds : (m j : ℕ) → Holds work counts made m j → Live w (noted cells serials (start_of counts m + j))
-  pub distinct : (m j k i : ℕ) → Holds work counts made m j → Holds work counts made k i
-      → noted cells serials (start_of counts m + j) ≡ noted cells serials (start_of counts k + i) → (m ≡ k) × (j ≡ i)
-
--- a member's moves after one more move of one member
-data Moves (made : List ℕ) (m k : ℕ) : Type 0 where
-  mine : k ≡ m → get_or (moved made m) k 0 ≡ get_or made m 0 + 1 → Moves made m k
-  other : (k ≡ m → ⊥) → get_or (moved made m) k 0 ≡ get_or made k 0 → Moves made m k
-
 moves : (made : List ℕ) (m k : ℕ) → m < length made → Moves made m k
 moves made m k l = go (ℕ_discrete k m)
   where
     go : Dec (k ≡ m) → Moves made m k
     go (yes e) = mine e (rw e (get_or-set_same made m (get_or made m 0 + 1) 0 l))
     go (no e) = other e (get_or-set_other made m k (get_or made m 0 + 1) 0 e)
-
--- where a member has noted one more: the lease noted at a place that is held then
-data Noted (work : Work) (counts cells made serials : List ℕ) (m x i j : ℕ) : Type 0 where
-  new_one : i ≡ m → j ≡ get_or made m 0
-      → noted cells (set serials (start_of counts m + get_or made m 0) x) (start_of counts i + j) ≡ hold_of (get_or cells (start_of counts m + get_or made m 0) 0) x
-      → Noted work counts cells made serials m x i j
-  old_one : Holds work counts made i j
-      → noted cells (set serials (start_of counts m + get_or made m 0) x) (start_of counts i + j) ≡ noted cells serials (start_of counts i + j)
-      → Noted work counts cells made serials m x i j
 
 -- ---- a lock with no script spares every lease, and leaves the health alone
 

@@ -1,5 +1,6 @@
 -- Examples that meet the premises of each theorem, so that none speaks of nothing. By computation, on document 01's bench arena: H 2, B 4,
 -- registry 0, 1, 1, first serial 1, boot number 6.
+-- ---- a day
 use Rattle.std.specs.Prelude.{ℕ, suc, zero, ◌+◌, ◌≤◌, ◌<◌, ◌≡◌, refl, List, [], ◌∷◌, ◌++◌, true, replicate}
 use Rattle.std.proofs.Common.{sym, ap, ◌∙◌, subst, inl, inr, arith}
 use Rattle.model.specs.Log.{Made, Event, by_caller, by_script, attempt_begun, boundary_run, took, released, waiters_set, health_set, Actor, step_dropped}
@@ -22,81 +23,14 @@ use Rattle.types.specs.declared.Refusal.{Refusal}
 use Rattle.types.specs.declared.Refusal.TheVariants.{StaleBoot, Poisoned, InvalidBucket, NotHeld, BadCrew, Damaged, BadShape}
 use Rattle.types.specs.declared.SalvageAnswer.TheVariants as salvaged
 use Rattle.history.specs.World.{World, world_of, Live, Healthy, now, Sound, Spent, Unreleased, number_of_lem, takes}
-use Rattle.history.specs.Items.{Call, Says, salvage, salvaging, acquire_bucket, try_lock_lem, drop_lease, competing_acquire, drop_preserving, release_all_lem, acquire_locks, environment, try_acquire_lem, perform, foreign, Item, call, foreign_step, preparation, Course, course_of, cold, next_item, run, preparing, held_of, Entry, noted, preparation_over, entry_of, events_of, history_of, saying, says}
+use Rattle.history.specs.Items.{Call, Says, salvage, salvaging, acquire_bucket, try_lock, drop_lease, competing_acquire, drop_preserving, release_all, acquire_locks, environment, try_acquire, perform, foreign, Item, call, foreign_step, preparation, Course, course_of, cold, next_item, run, preparing, held_of, Entry, noted, preparation_over, entry_of, events_of, history_of, saying, says}
 use Rattle.history.specs.Statements.{drops_beside, to_release, Placed, alone, beside, listed, Begins, Fresh, Ledger, other_runs, answers, leaves, log_of, HandsOver, RolledBack, buffer_in, Fails}
 use Rattle.history.specs.Reasons.{TakesNothing}
 use Rattle.history.specs.Callers.{singles}
 use Rattle.history.proofs.Theorems.{grant_is, boot_stays, refused_stale, stale_is_16, demand_2, prepared_sound, prepared_begins, forgets, salvage_refused_stays, nothing_kept, held_live, changes_nothing, crew_refused_lem, crew_at_work_refused, named, take_is_call, nothing_new, rollback_is, two_writers, granted_healthy, holder_lives, early_takes_nothing, late_is_spent, locks_healthy, poisoned_holds_nothing}
 use Rattle.history.specs.Tests.{differ}
 use Rattle.history.specs.Events.{lives}
-
--- ---- a day
-
-abbrev registry : List ℕ
-registry = 0 ∷ 1 ∷ 1 ∷ []
-
--- RAM after a cold start, and the preparation over it
-abbrev rubbish : World
-rubbish = world_of (head_of 7 7 7 7) (replicate 24 7) (replicate 2 7)
-
-abbrev boot : Item
-boot = preparation 2 4 1 6
-
--- key (0,2) is granted: cell 2, serial 2; in its first boundary the script takes cell 5, serial 1
-abbrev grant : Call
-grant = acquire_bucket registry (1 ∷ 5 ∷ 0 ∷ 5 ∷ 0 ∷ 0 ∷ []) 0 [] 0 2
-
--- holding (2,2), cell 3 is taken with serial 3; somebody waits for it in the third boundary: Busy
-abbrev late : Call
-late = try_lock_lem (5 ∷ 0 ∷ 0 ∷ 5 ∷ 0 ∷ 0 ∷ 3 ∷ 3 ∷ 1 ∷ 5 ∷ 0 ∷ 0 ∷ []) 0 (2 ∷ 2 ∷ 6 ∷ []) 3
-
--- cell 2 is held, but not by serial 7: refused
-abbrev mistake : Call
-mistake = drop_lease (lease_of 2 7 6)
-
--- between two calls the other holder gives cell 5 back
-abbrev lone : Item
-lone = foreign_step 2 5 1
-
--- all that is held is given back
-abbrev over : Call
-over = release_all_lem [] 0 (2 ∷ 2 ∷ 6 ∷ [])
-
-abbrev day : List Item
-day = call grant ∷ call late ∷ call mistake ∷ lone ∷ call over ∷ []
-
-abbrev after : List Item → Course
-after items = run (cold rubbish) (boot ∷ items)
-
--- ---- what comes of it
-
-abbrev granting : List Event
-granting = attempt_begun ∷ boundary_run ∷ took by_script 5 1 ∷ boundary_run ∷ took by_caller 2 2 ∷ boundary_run ∷ []
-
-abbrev late_busy : List Event
-late_busy = attempt_begun ∷ boundary_run ∷ boundary_run ∷ took by_caller 3 3 ∷ boundary_run ∷ waiters_set 3 1 ∷ released by_caller 3 3 ∷ []
-
-abbrev given_back : List Event
-given_back = released by_script 5 1 ∷ []
-
-abbrev ending : List Event
-ending = released by_caller 2 2 ∷ boundary_run ∷ []
-
-abbrev prepared : World
-prepared = world_of (head_of 2 4 1 6) (replicate 24 0) (replicate 2 0)
-
--- every item does what was said of it; at the end all is free, the next serial is 4, and cell 3 is still waited for
-abbrev entries : List Entry
-entries =
-    entry_of granting (says (Granted (lease_of 2 2 6)) (counts_of 1 3 0 0) 2 [])
-    ∷ entry_of late_busy (says (Busy (reason.After 3)) (counts_of 1 3 0 0) 4 [])
-    ∷ entry_of [] (saying (Refused (NotHeld 0)))
-    ∷ entry_of given_back (saying Done)
-    ∷ entry_of ending (says Done (counts_of 0 1 0 0) 0 [])
-    ∷ []
-
-abbrev the_day : Course
-the_day = course_of prepared entries (world_of (head_of 2 4 4 6) (set_waiters (replicate 24 0) 3 1) (replicate 2 0))
+use Rattle.history.specs.Examples.{registry, rubbish, boot, grant, late, mistake, day, after, granting, late_busy, given_back, ending, prepared, entries, the_day, other_rubbish, lease, next_day, on_paper, granted, stale, mine, both_boots, two_keys, begun, second, bad_key, undone, step_one, meets_holder, meets_waiters, valve, first_grant, meanwhile, second_grant, damaged, cold_keys, sick, mended, gone_bad, bad_end, behind_keys, behind_script, behind, AtKey, boundary}
 
 pub day_is : after day ≡ the_day
 unfolding run next_item preparing perform foreign bit_at owner_at waiters_at set_cell set_waiters is_free is_held state_of state_at is_live leases_of holds_of same_hold is_in head_fits shape_fits health_fits registry_fits first step_release_of step_take_of step_waiters_of step_of run_steps_of boundary_of take_of late_stage_of second_stage_of lock_of find_of attempt_of retry_of give_back_of not_live not_releasable prepare_rules lease_rules script_rules lock_rules bucket_rules release_rules prepare_of drop_lease_of try_lock_of acquire_bucket_of release_all_of
@@ -118,21 +52,12 @@ day_sound =
     subst (λ (k : Course). Fresh k.origin → (before after : List Event) → history_of k ≡ before ++ after → Sound (now k.origin before)) day_is
     (prepared_sound rubbish boot day boot_done) refl
 
--- `forgets`: the same day over other RAM
-abbrev other_rubbish : World
-other_rubbish = world_of (head_of 0 0 0 0) (replicate 24 4_294_967_295) (replicate 2 255)
-
 pub other_boot_done : (preparing 2 4 1 6 other_rubbish.table other_rubbish.health).0 ≡ Done
 unfolding preparing prepare_of prepare_rules first head_fits shape_fits health_fits
 other_boot_done = refl
 
 pub same_day : run (cold other_rubbish) (boot ∷ day) ≡ the_day
 same_day = forgets other_rubbish rubbish 2 4 1 6 day other_boot_done boot_done ∙ day_is
-
--- `keeps`: the lease (2,2) is live when it was granted; a Busy try_lock, a refused call and a foreign step later nothing has released it, and
--- it is live; `release_all` releases it, and it is not
-abbrev lease : Hold
-lease = hold_of 2 2
 
 pub lease_lives : Live (now prepared granting) lease × Unreleased lease (late_busy ++ given_back) × Live (now prepared (granting ++ (late_busy ++ given_back))) lease
     × (Live (now prepared (granting ++ (late_busy ++ given_back) ++ ending)) lease → ⊥)
@@ -173,14 +98,10 @@ pub prepared_again : (after (day ++ (boot ∷ [])) ≡ cold prepared) × (after 
 unfolding run next_item preparing perform foreign bit_at owner_at waiters_at set_cell set_waiters is_free is_held state_of state_at is_live leases_of holds_of same_hold is_in head_fits shape_fits health_fits registry_fits first step_release_of step_take_of step_waiters_of step_of run_steps_of boundary_of take_of late_stage_of second_stage_of lock_of find_of attempt_of retry_of give_back_of not_live not_releasable prepare_rules lease_rules script_rules lock_rules bucket_rules release_rules prepare_of drop_lease_of try_lock_of acquire_bucket_of release_all_of
 prepared_again = (refl, refl)
 
--- `prepared_begins`: such a stretch, with the first serial 5 and cell 3 taken
-abbrev next_day : Course
-next_day = run the_day (preparation_over 2 4 5 6 (replicate 24 9) (replicate 2 9) ∷ call (try_acquire_lem 3) ∷ [])
-
 pub next_day_begins : (next_day.origin ≡ world_of (head_of 2 4 5 6) (replicate 24 0) (replicate 2 0)) × (next_day.world.head.next ≡ 5 + number_of_lem takes (history_of next_day))
 unfolding preparing prepare_of prepare_rules first head_fits shape_fits health_fits
 next_day_begins =
-    let x = prepared_begins the_day (preparation_over 2 4 5 6 (replicate 24 9) (replicate 2 9)) 2 4 5 6 (replicate 24 9) (replicate 2 9) (call (try_acquire_lem 3) ∷ [])
+    let x = prepared_begins the_day (preparation_over 2 4 5 6 (replicate 24 9) (replicate 2 9)) 2 4 5 6 (replicate 24 9) (replicate 2 9) (call (try_acquire 3) ∷ [])
     (other_runs (replicate 24 9) (replicate 2 9)) refl (λ z. z, tt) in
     (x.0, x.3)
 
@@ -188,11 +109,6 @@ pub refused_again : (after (day ++ (preparation 2 5 1 6 ∷ [])) ≡ noted the_d
     × (after (day ++ (preparation_over 2 4 1 6 (replicate 23 9) (replicate 2 9) ∷ [])) ≡ noted the_day [] (saying (Refused BadShape)) the_day.world)
 unfolding run next_item preparing perform foreign bit_at owner_at waiters_at set_cell set_waiters is_free is_held state_of state_at is_live leases_of holds_of same_hold is_in head_fits shape_fits health_fits registry_fits first step_release_of step_take_of step_waiters_of step_of run_steps_of boundary_of take_of late_stage_of second_stage_of lock_of find_of attempt_of retry_of give_back_of not_live not_releasable prepare_rules lease_rules script_rules lock_rules bucket_rules release_rules prepare_of drop_lease_of try_lock_of acquire_bucket_of release_all_of
 refused_again = (refl, refl)
-
--- ---- document 02, L6: a salvage at the end of the day, with the head in force on paper. Cell 3 is waited for, so its report has one entry
-
-abbrev on_paper : Head
-on_paper = head_of 2 4 4 6
 
 pub salvaged_then : (after (day ++ (salvage on_paper (replicate 3 9) [] ∷ [])) ≡ cold (world_of on_paper (replicate 24 0) (replicate 2 0)))
     × ((salvaging on_paper the_day.world.table the_day.world.health (replicate 3 9) []).0 ≡ salvaged.Done 1 0)
@@ -207,11 +123,6 @@ full_then d = let q : salvaged.ReportFull ≡ salvaged.Done d.0 d.1 = d.2 in let
 pub unsalvaged_then : next_item the_day (salvage on_paper [] []) ≡ the_day
 unsalvaged_then = salvage_refused_stays the_day on_paper [] [] full_then
 
--- ---- one call, in the prepared world and in the one after the grant
-
-abbrev granted : World
-granted = now prepared granting
-
 pub both_sound : Sound prepared × Sound granted
 both_sound = (day_sound [] _ refl, day_sound granting _ refl)
 
@@ -220,29 +131,18 @@ pub mistake_refused : (answers granted mistake ≡ Refused (NotHeld 0)) × (leav
 unfolding run next_item preparing perform foreign bit_at owner_at waiters_at set_cell set_waiters is_free is_held state_of state_at is_live leases_of holds_of words_of same_hold is_in head_fits shape_fits health_fits registry_fits first step_take_of step_release_of step_waiters_of step_health_of step_of run_steps_of boundary_of take_of late_stage_of second_stage_of lock_of find_of attempt_of spin_of pause_of retry_of give_back_of rollback_of locks_of not_live bad_bindings not_releasable prepare_rules cell_rules lease_rules script_rules lock_rules bucket_rules release_rules locks_rules prepare_of acquire_of try_acquire_of drop_lease_of environment_of try_lock_of acquire_bucket_of release_all_of acquire_locks_of
 mistake_refused = (refl, ap (λ (m : Made (World × Says)). m.seen.0) (changes_nothing granted mistake (NotHeld 0) refl (inr (inr (omega arith)))))
 
--- ---- document 02, L8: the same cell and serial, from another boot. `refused_stale`, `stale_is_16`: alone, beside a held list that is fine, where 16 comes
--- before 13, and behind the lease of this boot in a list, where 16 comes before 14
-abbrev stale : Lease
-stale = lease_of 2 2 5
-
-abbrev mine : List ℕ
-mine = 2 ∷ 2 ∷ 6 ∷ []
-
-abbrev both_boots : List ℕ
-both_boots = 2 ∷ 2 ∷ 6 ∷ 2 ∷ 2 ∷ 5 ∷ []
-
 pub stale_unchanged : (r : Refusal) × (answers granted (drop_lease stale) ≡ Refused r) × (leaves granted (drop_lease stale) ≡ granted)
 stale_unchanged =
     let x = refused_stale granted (drop_lease stale) stale refl refl in
     (x.0, ap (λ (m : Made (World × Says)). m.seen.1.answer) x.2, ap (λ (m : Made (World × Says)). m.seen.0) x.2)
 
 pub stale_sixteen : (answers granted (drop_lease stale) ≡ Refused (StaleBoot 0)) × (answers granted (drop_preserving mine stale) ≡ Refused (StaleBoot 0))
-    × (answers granted (release_all_lem [] 0 both_boots) ≡ Refused (StaleBoot 1))
+    × (answers granted (release_all [] 0 both_boots) ≡ Refused (StaleBoot 1))
 unfolding run next_item preparing perform foreign bit_at owner_at waiters_at set_cell set_waiters is_free is_held state_of state_at is_live leases_of holds_of words_of same_hold is_in head_fits shape_fits health_fits registry_fits first step_take_of step_release_of step_waiters_of step_health_of step_of run_steps_of boundary_of take_of late_stage_of second_stage_of lock_of find_of attempt_of spin_of pause_of retry_of give_back_of rollback_of locks_of not_live bad_bindings not_releasable prepare_rules cell_rules lease_rules script_rules lock_rules bucket_rules release_rules locks_rules prepare_of acquire_of try_acquire_of drop_lease_of environment_of try_lock_of acquire_bucket_of release_all_of acquire_locks_of
 stale_sixteen = (
   (stale_is_16 granted (drop_lease stale) 0).1 (stale, _, alone refl, refl, refl),
   (stale_is_16 granted (drop_preserving mine stale) 0).1 (stale, _, beside mine (drops_beside mine stale), refl, refl),
-  (stale_is_16 granted (release_all_lem [] 0 both_boots) 1).1 (stale, _, listed both_boots _ 1 (to_release [] 0 both_boots) (omega arith) refl, refl, refl),
+  (stale_is_16 granted (release_all [] 0 both_boots) 1).1 (stale, _, listed both_boots _ 1 (to_release [] 0 both_boots) (omega arith) refl, refl, refl),
 )
 
 -- and only then: a dead lease of the head's own boot number is not refused by 16, at any position
@@ -273,16 +173,6 @@ unfolding head_fits shape_fits health_fits first crew_at_work_rules crew_at_work
 short_counters_refused =
     (refl, ap (λ (m : Made (CrewReply × (List ℕ × List ℕ))). m.seen.1.1) (crew_at_work_refused (head_of 2 4 1 6) (replicate 24 0) (replicate 2 0) (2 ∷ []) (2 ∷ 5 ∷ []) [] (9 ∷ []) BadShape refl))
 
--- `nothing_kept`, where all is granted: cells 0 and 5, serials 1 and 2
-abbrev two_keys : Call
-two_keys = acquire_locks registry [] 0 [] (0 ∷ 0 ∷ 1 ∷ 1 ∷ []) (7 ∷ 7 ∷ 7 ∷ 7 ∷ 7 ∷ 7 ∷ [])
-
-abbrev begun : List Event
-begun = attempt_begun ∷ boundary_run ∷ boundary_run ∷ []
-
-abbrev second : List Event
-second = boundary_run ∷ attempt_begun ∷ boundary_run ∷ boundary_run ∷ took by_caller 5 2 ∷ boundary_run ∷ []
-
 pub two_granted : (answers prepared two_keys ≡ AllGranted) × ((perform prepared two_keys).seen.1.grants ≡ 0 ∷ 1 ∷ 6 ∷ 5 ∷ 2 ∷ 6 ∷ [])
     × (log_of prepared two_keys ≡ begun ++ (took by_caller 0 1 ∷ second)) × Live (leaves prepared two_keys) (hold_of 0 1)
 unfolding run next_item preparing perform foreign bit_at owner_at waiters_at set_cell set_waiters is_free is_held state_of state_at is_live leases_of holds_of words_of same_hold is_in head_fits shape_fits health_fits registry_fits first step_take_of step_release_of step_waiters_of step_health_of step_of run_steps_of boundary_of take_of late_stage_of second_stage_of lock_of find_of attempt_of spin_of pause_of retry_of give_back_of rollback_of locks_of not_live bad_bindings not_releasable prepare_rules cell_rules lease_rules script_rules lock_rules bucket_rules release_rules locks_rules prepare_of acquire_of try_acquire_of drop_lease_of environment_of try_lock_of acquire_bucket_of release_all_of acquire_locks_of
@@ -293,26 +183,15 @@ pub two_handed : HandsOver (answers prepared two_keys) (perform prepared two_key
 two_handed =
     elim (nothing_kept prepared two_keys 0 1 begun second (λ z. z) two_granted.2) [ inl x ↦ x.0 | inr y ↦ absurd (y.1 two_granted.3) ]
 
--- `nothing_new`, `rollback_is`: the second key's bucket is refused after the first key's cell was taken
-abbrev bad_key_lem : Call
-bad_key_lem = acquire_locks registry [] 0 [] (0 ∷ 0 ∷ 0 ∷ 9 ∷ []) (7 ∷ 7 ∷ 7 ∷ 7 ∷ 7 ∷ 7 ∷ [])
-
-abbrev undone : List Event
-undone = boundary_run ∷ attempt_begun ∷ released by_caller 0 1 ∷ boundary_run ∷ []
-
-pub second_refused : (answers prepared bad_key_lem ≡ RefusedAt (InvalidBucket 9) 1) × (log_of prepared bad_key_lem ≡ begun ++ (took by_caller 0 1 ∷ undone))
+pub second_refused : (answers prepared bad_key ≡ RefusedAt (InvalidBucket 9) 1) × (log_of prepared bad_key ≡ begun ++ (took by_caller 0 1 ∷ undone))
 unfolding run next_item preparing perform foreign bit_at owner_at waiters_at set_cell set_waiters is_free is_held state_of state_at is_live leases_of holds_of words_of same_hold is_in head_fits shape_fits health_fits registry_fits first step_take_of step_release_of step_waiters_of step_health_of step_of run_steps_of boundary_of take_of late_stage_of second_stage_of lock_of find_of attempt_of spin_of pause_of retry_of give_back_of rollback_of locks_of not_live bad_bindings not_releasable prepare_rules cell_rules lease_rules script_rules lock_rules bucket_rules release_rules locks_rules prepare_of acquire_of try_acquire_of drop_lease_of environment_of try_lock_of acquire_bucket_of release_all_of acquire_locks_of
 second_refused = (refl, refl)
 
 -- so it is given back, and the buffer is as it was
-pub all_undone : (buffer_in (perform prepared bad_key_lem) ≡ 7 ∷ 7 ∷ 7 ∷ 7 ∷ 7 ∷ 7 ∷ []) × (Live (leaves prepared bad_key_lem) (hold_of 0 1) → ⊥)
+pub all_undone : (buffer_in (perform prepared bad_key) ≡ 7 ∷ 7 ∷ 7 ∷ 7 ∷ 7 ∷ 7 ∷ []) × (Live (leaves prepared bad_key) (hold_of 0 1) → ⊥)
 all_undone =
-    let back = nothing_new prepared bad_key_lem (λ z. z) (subst Fails (sym second_refused.0) tt) in
+    let back = nothing_new prepared bad_key (λ z. z) (subst Fails (sym second_refused.0) tt) in
     (back.0, (back.1 0 1 begun undone second_refused.1).1)
-
--- `named`: a script's release, by its step 1; the caller's release of (3,3), which it took
-abbrev step_one : Call
-step_one = environment (0 ∷ 0 ∷ 0 ∷ 2 ∷ 5 ∷ 1 ∷ []) 1 []
 
 pub releases_named : (log_of granted step_one ≡ (boundary_run ∷ []) ++ (released by_script 5 1 ∷ []))
     × ((p : ℕ) × (1 ≤ p) × (p < 2))
@@ -332,14 +211,6 @@ pub lease_held : (is_in lease (held_of late) ≡ true) × Live granted lease × 
 unfolding run next_item preparing perform foreign bit_at owner_at waiters_at set_cell set_waiters is_free is_held state_of state_at is_live leases_of holds_of words_of same_hold is_in head_fits shape_fits health_fits registry_fits first step_take_of step_release_of step_waiters_of step_health_of step_of run_steps_of boundary_of take_of late_stage_of second_stage_of lock_of find_of attempt_of spin_of pause_of retry_of give_back_of rollback_of locks_of not_live bad_bindings not_releasable prepare_rules cell_rules lease_rules script_rules lock_rules bucket_rules release_rules locks_rules prepare_of acquire_of try_acquire_of drop_lease_of environment_of try_lock_of acquire_bucket_of release_all_of acquire_locks_of
 lease_held = (refl, refl, refl, held_live granted late lease late_busy [] refl refl refl)
 
--- ---- why it is Busy: cell 2 held by serial 2, waiters of cell 3 seen before, waiters of cell 3 seen after
-
-abbrev meets_holder : Call
-meets_holder = try_lock_lem [] 0 [] 2
-
-abbrev meets_waiters : Call
-meets_waiters = try_lock_lem (3 ∷ 3 ∷ 1 ∷ 5 ∷ 0 ∷ 0 ∷ []) 0 [] 3
-
 pub three_reasons : (answers granted meets_holder ≡ Busy (reason.Held 2)) × (answers granted meets_waiters ≡ Busy reason.Before) × (answers granted late ≡ Busy (reason.After 3))
 unfolding run next_item preparing perform foreign bit_at owner_at waiters_at set_cell set_waiters is_free is_held state_of state_at is_live leases_of holds_of words_of same_hold is_in head_fits shape_fits health_fits registry_fits first step_take_of step_release_of step_waiters_of step_health_of step_of run_steps_of boundary_of take_of late_stage_of second_stage_of lock_of find_of attempt_of spin_of pause_of retry_of give_back_of rollback_of locks_of not_live bad_bindings not_releasable prepare_rules cell_rules lease_rules script_rules lock_rules bucket_rules release_rules locks_rules prepare_of acquire_of try_acquire_of drop_lease_of environment_of try_lock_of acquire_bucket_of release_all_of acquire_locks_of
 three_reasons = (refl, refl, refl)
@@ -357,20 +228,6 @@ pub own_named : answers granted (competing_acquire (lease_of 2 2 6)) ≡ Busy (r
 unfolding run next_item preparing perform foreign bit_at owner_at waiters_at set_cell set_waiters is_free is_held state_of state_at is_live leases_of holds_of words_of same_hold is_in head_fits shape_fits health_fits registry_fits first step_take_of step_release_of step_waiters_of step_health_of step_of run_steps_of boundary_of competing_acquire_of take_of late_stage_of second_stage_of lock_of find_of attempt_of spin_of pause_of retry_of give_back_of rollback_of locks_of not_live bad_bindings not_releasable prepare_rules cell_rules lease_rules script_rules lock_rules bucket_rules release_rules locks_rules prepare_of acquire_of try_acquire_of drop_lease_of environment_of try_lock_of acquire_bucket_of release_all_of acquire_locks_of
 own_named = refl
 
--- ---- `two_writers`: cell 2 is granted, Busy, given back, granted again
-
-abbrev valve : List Item
-valve = call (try_acquire_lem 2) ∷ call (try_acquire_lem 2) ∷ call (drop_lease (lease_of 2 1 6)) ∷ call (try_acquire_lem 2) ∷ []
-
-abbrev first_grant : Entry
-first_grant = entry_of (attempt_begun ∷ took by_caller 2 1 ∷ []) (says (Granted (lease_of 2 1 6)) (counts_of 1 0 0 0) 0 [])
-
-abbrev meanwhile : List Entry
-meanwhile = entry_of (attempt_begun ∷ []) (says (Busy (reason.Held 1)) (counts_of 1 0 0 0) 0 []) ∷ entry_of (released by_caller 2 1 ∷ []) (saying Done) ∷ []
-
-abbrev second_grant : Entry
-second_grant = entry_of (attempt_begun ∷ took by_caller 2 2 ∷ []) (says (Granted (lease_of 2 2 6)) (counts_of 1 0 0 0) 0 [])
-
 pub valve_is : (after valve).entries ≡ first_grant ∷ (meanwhile ++ (second_grant ∷ []))
 unfolding run next_item preparing perform foreign bit_at owner_at waiters_at set_cell set_waiters is_free is_held state_of state_at is_live leases_of holds_of words_of same_hold is_in head_fits shape_fits health_fits registry_fits first step_take_of step_release_of step_waiters_of step_health_of step_of run_steps_of boundary_of take_of late_stage_of second_stage_of lock_of find_of attempt_of spin_of pause_of retry_of give_back_of rollback_of locks_of not_live bad_bindings not_releasable prepare_rules cell_rules lease_rules script_rules lock_rules bucket_rules release_rules locks_rules prepare_of acquire_of try_acquire_of drop_lease_of environment_of try_lock_of acquire_bucket_of release_all_of acquire_locks_of
 valve_is = refl
@@ -378,15 +235,6 @@ valve_is = refl
 pub valve_released : (a : Actor) × (before middle after : List Event)
     × (events_of meanwhile ++ second_grant.events ≡ before ++ (released a 2 1 ∷ (middle ++ (took by_caller 2 2 ∷ after))))
 valve_released = two_writers rubbish boot valve boot_done [] meanwhile [] first_grant second_grant 2 1 2 valve_is refl refl
-
--- ---- cold RAM: every cell is damaged but cell 0, and nobody waits for cell 1. The first key is locked, the second is refused as damaged, the first
--- is given back
-
-abbrev damaged : World
-damaged = world_of (head_of 2 4 1 6) (0 ∷ 0 ∷ 0 ∷ 7 ∷ 7 ∷ 0 ∷ replicate 18 7) (replicate 2 0)
-
-abbrev cold_keys : Call
-cold_keys = acquire_locks registry [] 0 [] (0 ∷ 0 ∷ 0 ∷ 1 ∷ []) (9 ∷ 9 ∷ 9 ∷ 9 ∷ 9 ∷ 9 ∷ [])
 
 pub cold_refused : (answers damaged cold_keys ≡ RefusedAt (Damaged 1) 1)
 unfolding run next_item preparing perform foreign bit_at owner_at waiters_at set_cell set_waiters is_free is_held state_of state_at is_live leases_of holds_of words_of same_hold is_in head_fits shape_fits health_fits registry_fits first step_take_of step_release_of step_waiters_of step_health_of step_of run_steps_of boundary_of take_of late_stage_of second_stage_of lock_of find_of attempt_of spin_of pause_of retry_of give_back_of rollback_of locks_of not_live bad_bindings not_releasable prepare_rules cell_rules lease_rules script_rules lock_rules bucket_rules release_rules locks_rules prepare_of acquire_of try_acquire_of drop_lease_of environment_of try_lock_of acquire_bucket_of release_all_of acquire_locks_of
@@ -399,15 +247,6 @@ cold_rolled_back = (nothing_new damaged cold_keys (λ z. z) (subst Fails (sym co
 pub cold_leases : RolledBack 4 registry (0 ∷ 0 ∷ 0 ∷ 1 ∷ []) 1 (log_of damaged cold_keys)
 cold_leases = rollback_is damaged registry [] 0 [] (0 ∷ 0 ∷ 0 ∷ 1 ∷ []) (9 ∷ 9 ∷ 9 ∷ 9 ∷ 9 ∷ 9 ∷ []) (Damaged 1) 1 cold_refused
 
--- ---- document 02, L3, health read after the lock. Cell 6 is of header 1
-
--- header 1 is poisoned, and mended in the first boundary: in time for a call by cell
-abbrev sick : World
-sick = world_of (head_of 2 4 1 6) (replicate 24 0) (0 ∷ 1 ∷ [])
-
-abbrev mended : Call
-mended = try_lock_lem (4 ∷ 1 ∷ 0 ∷ 5 ∷ 0 ∷ 0 ∷ []) 0 [] 6
-
 mended_granted : answers sick mended ≡ Granted (lease_of 6 1 6)
 unfolding run next_item preparing perform foreign bit_at owner_at waiters_at set_cell set_waiters is_free is_held state_of state_at is_live leases_of holds_of words_of same_hold is_in head_fits shape_fits health_fits registry_fits first step_take_of step_release_of step_waiters_of step_health_of step_of run_steps_of boundary_of take_of late_stage_of second_stage_of lock_of find_of attempt_of spin_of pause_of retry_of give_back_of rollback_of locks_of not_live bad_bindings not_releasable prepare_rules cell_rules lease_rules script_rules lock_rules bucket_rules release_rules locks_rules prepare_of acquire_of try_acquire_of drop_lease_of environment_of try_lock_of acquire_bucket_of release_all_of acquire_locks_of
 mended_granted = refl
@@ -415,13 +254,6 @@ mended_granted = refl
 -- `granted_healthy`
 pub mended_healthy : Healthy (leaves sick mended) 6
 mended_healthy = granted_healthy sick mended (lease_of 6 1 6) tt mended_granted
-
--- `poisoned_holds_nothing`: the header is poisoned in the third boundary
-abbrev gone_bad : Call
-gone_bad = try_lock_lem (5 ∷ 0 ∷ 0 ∷ 5 ∷ 0 ∷ 0 ∷ 4 ∷ 1 ∷ 1 ∷ []) 0 [] 6
-
-abbrev bad_end : List Event
-bad_end = boundary_run ∷ health_set 1 1 ∷ released by_caller 6 1 ∷ []
 
 pub gone_bad_is : (answers prepared gone_bad ≡ Refused (Poisoned 1)) × (log_of prepared gone_bad ≡ begun ++ (took by_caller 6 1 ∷ bad_end))
 unfolding run next_item preparing perform foreign bit_at owner_at waiters_at set_cell set_waiters is_free is_held state_of state_at is_live leases_of holds_of words_of same_hold is_in head_fits shape_fits health_fits registry_fits first step_take_of step_release_of step_waiters_of step_health_of step_of run_steps_of boundary_of take_of late_stage_of second_stage_of lock_of find_of attempt_of spin_of pause_of retry_of give_back_of rollback_of locks_of not_live bad_bindings not_releasable prepare_rules cell_rules lease_rules script_rules lock_rules bucket_rules release_rules locks_rules prepare_of acquire_of try_acquire_of drop_lease_of environment_of try_lock_of acquire_bucket_of release_all_of acquire_locks_of
@@ -433,28 +265,10 @@ gone_bad_leaves =
     let k = poisoned_holds_nothing prepared gone_bad (λ z. z) (ap refusal_in gone_bad_is.0) in
     ((k.0.1 6 1 begun bad_end gone_bad_is.1).1, k.1)
 
--- `locks_healthy`, and what it does not say. Keys (0,2) and (1,2): the first is granted while its header 0 is healthy; the
--- second key's first boundary poisons header 0. Health is read again for the key at hand alone, so the call grants both.
--- The last key's header is healthy in what the call leaves, the first key's is not
-abbrev behind_keys : List ℕ
-behind_keys = 0 ∷ 2 ∷ 1 ∷ 2 ∷ []
-
-abbrev behind_script : List ℕ
-behind_script = 5 ∷ 0 ∷ 0 ∷ 5 ∷ 0 ∷ 0 ∷ 5 ∷ 0 ∷ 0 ∷ 4 ∷ 0 ∷ 1 ∷ []
-
-abbrev behind : Call
-behind = acquire_locks registry behind_script 0 [] behind_keys (9 ∷ 9 ∷ 9 ∷ 9 ∷ 9 ∷ 9 ∷ [])
-
 pub poisoned_behind : (answers prepared behind ≡ AllGranted) × (buffer_in (perform prepared behind) ≡ 2 ∷ 1 ∷ 6 ∷ 6 ∷ 2 ∷ 6 ∷ [])
     × ((leaves prepared behind).health ≡ 1 ∷ 0 ∷ [])
 unfolding run next_item preparing perform foreign bit_at owner_at waiters_at set_cell set_waiters is_free is_held state_of state_at is_live leases_of holds_of words_of same_hold is_in head_fits shape_fits health_fits registry_fits first step_take_of step_release_of step_waiters_of step_health_of step_of run_steps_of boundary_of take_of late_stage_of second_stage_of lock_of find_of attempt_of spin_of pause_of retry_of give_back_of rollback_of locks_of not_live bad_bindings not_releasable prepare_rules cell_rules lease_rules script_rules lock_rules bucket_rules release_rules locks_rules prepare_of acquire_of try_acquire_of drop_lease_of environment_of try_lock_of acquire_bucket_of release_all_of acquire_locks_of
 poisoned_behind = (refl, refl, refl)
-
--- a key's lease at its point, and the last key's at the end
-abbrev AtKey : ℕ → Hold → Type 0
-AtKey p l =
-    ((before after : List Event) × (log_of prepared behind ≡ before ++ after) × Healthy (now prepared before) l.cell)
-    × (p + 1 ≡ 2 → Healthy (leaves prepared behind) l.cell)
 
 at_key : (p : ℕ) (l : Hold) → hold_at (holds_of (buffer_in (perform prepared behind))) p ≡ l → p < 2 → AtKey p l
 at_key p l e i =
@@ -467,14 +281,11 @@ behind_healthy = (at_key 0 (hold_of 2 1) (rw poisoned_behind.1) (omega arith), (
 
 -- ---- other callers: a foreign take of cell 3, and the call that it is; a boundary with a legal take and a dropped one, and the history that it is
 
-pub other_takes : ((foreign prepared 1 3 0).log ≡ took by_script 3 1 ∷ []) × (answers prepared (try_acquire_lem 3) ≡ Granted (lease_of 3 1 6))
+pub other_takes : ((foreign prepared 1 3 0).log ≡ took by_script 3 1 ∷ []) × (answers prepared (try_acquire 3) ≡ Granted (lease_of 3 1 6))
 unfolding run next_item preparing perform foreign bit_at owner_at waiters_at set_cell set_waiters is_free is_held state_of state_at is_live leases_of holds_of words_of same_hold is_in head_fits shape_fits health_fits registry_fits first step_take_of step_release_of step_waiters_of step_health_of step_of run_steps_of boundary_of take_of late_stage_of second_stage_of lock_of find_of attempt_of spin_of pause_of retry_of give_back_of rollback_of locks_of not_live bad_bindings not_releasable prepare_rules cell_rules lease_rules script_rules lock_rules bucket_rules release_rules locks_rules prepare_of acquire_of try_acquire_of drop_lease_of environment_of try_lock_of acquire_bucket_of release_all_of acquire_locks_of
 other_takes = (refl, (take_is_call prepared 3 0 1 refl refl).0)
 
-abbrev boundary : Call
-boundary = environment (1 ∷ 3 ∷ 0 ∷ 1 ∷ 3 ∷ 0 ∷ 2 ∷ 3 ∷ 1 ∷ []) 0 []
-
 pub boundary_history : (log_of prepared boundary ≡ boundary_run ∷ took by_script 3 1 ∷ step_dropped ∷ released by_script 3 1 ∷ [])
-    × (singles 6 (log_of prepared boundary) ≡ call (try_acquire_lem 3) ∷ call (drop_lease (lease_of 3 1 6)) ∷ [])
+    × (singles 6 (log_of prepared boundary) ≡ call (try_acquire 3) ∷ call (drop_lease (lease_of 3 1 6)) ∷ [])
 unfolding run next_item preparing perform foreign bit_at owner_at waiters_at set_cell set_waiters is_free is_held state_of state_at is_live leases_of holds_of words_of same_hold is_in head_fits shape_fits health_fits registry_fits first step_take_of step_release_of step_waiters_of step_health_of step_of run_steps_of boundary_of take_of late_stage_of second_stage_of lock_of find_of attempt_of spin_of pause_of retry_of give_back_of rollback_of locks_of not_live bad_bindings not_releasable prepare_rules cell_rules lease_rules script_rules lock_rules bucket_rules release_rules locks_rules prepare_of acquire_of try_acquire_of drop_lease_of environment_of try_lock_of acquire_bucket_of release_all_of acquire_locks_of
 boundary_history = (refl, refl)

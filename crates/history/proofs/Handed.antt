@@ -1,5 +1,6 @@
 -- What an answer hands over was taken by the caller in the call's own log, with the serial that was next at that moment. These laws read logs,
 -- answers and next serials only: no arena has to be sound.
+-- ---- logs
 use Prim.Native.Nat.{ℕ, zero, suc, ◌+◌, ◌-◌, ◌%◌, ◌≤◌, ◌<◌}
 use Rattle.std.specs.Prelude.{◌≡◌, refl, ◌&&◌, ◌⊎◌, ltb, eqb, length, take}
 use Rattle.std.proofs.Common.{sym, ap, ◌∙◌}
@@ -34,18 +35,11 @@ use Rattle.choice.specs.Pick.{if_both}
 use Rattle.laws.specs.Lists.{words_back}
 use Rattle.history.specs.World.{takes, number_of_lem}
 use Rattle.history.specs.Tests.{differ, In, in_cases, in_either}
-use Rattle.history.proofs.Steps.{With}
-use Rattle.history.proofs.Owing.{Nobody, Given, of_ended, no_grant, no_refused}
+use Rattle.history.specs.Steps.{With}
+use Rattle.history.specs.Owing.{Nobody, Given, of_ended}
+use Rattle.history.proofs.Owing.{no_grant, no_refused}
 use Rattle.history.specs.Counted.{number_append}
-
--- ---- logs
-
--- from the next serial n on, the caller takes this lease in the log, with the serial that is next then
-pub record TakenIn (n : ℕ) (l : Hold) (es : List Event) : Type 0 where
-  pub before : List Event
-  pub after : List Event
-  pub parts : es ≡ before ++ (took by_caller l.cell l.serial ∷ after)
-  pub was_next : l.serial ≡ n + number_of_lem takes before
+use Rattle.history.specs.Handed.{TakenIn, Issues, of_take, Locking, Trying, Running, Ending}
 
 taken_left : {n : ℕ} {l : Hold} (xs ys : List Event) → TakenIn n l xs → TakenIn n l (xs ++ ys)
 taken_left xs ys t =
@@ -66,11 +60,6 @@ unfolding number_of_lem
 taken_between {n} {l} {es} t =
     let k = took by_caller l.cell l.serial ∷ t.after in
     (omega (arith, t.was_next), omega (arith, t.was_next, ap (number_of_lem takes) t.parts, number_append takes t.before k))
-
--- a log that leads from the next serial n to m: of the leases L that are in hand after it, each was in hand before (K), or is taken in it
-pub record Issues (n : ℕ) (K : Hold → Type 0) (m : ℕ) (L : Hold → Type 0) (es : List Event) : Type 0 where
-  pub spends : m ≡ n + number_of_lem takes es
-  pub comes : (l : Hold) → L l → K l ⊎ TakenIn n l es
 
 pub idle : {n : ℕ} {K L : Hold → Type 0} → ((l : Hold) → L l → K l) → Issues n K n L []
 unfolding number_of_lem
@@ -134,11 +123,6 @@ module _ (e : Setting) where
   unfolding boundary_of number_of_lem
   boundary_issues K f t g = none_new (omega (arith, steps_spends (steps_in e.script - f.place) f t g))
 
--- ---- a lock
-
-abbrev of_take : ℕ → Take → Hold → Type 0
-of_take c a = Given (outcome_of c a)
-
 pub take_issues : (n : ℕ) (t : List ℕ) (c : ℕ) → let m = take_of n t c in Issues n Nobody m.seen.0.next (of_take c m.seen.0.answer) m.log
 unfolding take_of number_of_lem
 take_issues n t c = go (state_at n t c)
@@ -156,10 +140,6 @@ take_issues n t c = go (state_at n t c)
     go state.Damaged = idle (λ l x. no_refused x)
     go (state.Held o) = idle (λ l x. no_grant x)
     go state.Free = if_both P (serial_remains n) (record { spends = omega arith; comes = new }) (idle (λ l x. no_refused x))
-
--- from a flow to what is seen, with the leases K in hand
-abbrev Locking : ℕ → (Hold → Type 0) → Made (With Locked) → Type 0
-Locking n K m = Issues n K m.seen.0.flow.next (Given m.seen.0.answer) m.log
 
 module _ (e : Setting) (buckets : ℕ) where
   late_issues : (f : Flow) (t g : List ℕ) (c s : ℕ) → Locking f.next (of_take c (taking.Granted s)) (late_stage_of e buckets f t g c s)
@@ -192,14 +172,6 @@ module _ (e : Setting) (buckets : ℕ) where
       let m = (boundary_of e f t g).seen in
       follow (boundary_issues e Nobody f t g)
       (if_both (Locking m.0.next Nobody) (eqb (waiters_at m.1.0 c) 0) (second_issues m.0 m.1.0 m.1.1 c) (idle (λ l x. no_grant x)))
-
--- ---- attempts by key
-
-abbrev Trying : ℕ → Made (With Tried) → Type 0
-Trying n m = Issues n Nobody m.seen.0.run.flow.next (Given m.seen.0.outcome) m.log
-
-abbrev Running : ℕ → Made (With Run) → Type 0
-Running n m = Issues n Nobody m.seen.0.flow.next Nobody m.log
 
 module _ (e : Setting) where
   pub attempt_issues : (buckets : ℕ) (registry : List ℕ) (binding bucket : ℕ) (r : Run) (t g : List ℕ)
@@ -256,9 +228,6 @@ module _ (e : Setting) where
 only : (k l : Hold) → In (k ∷ []) l → outcome.Granted k ≡ outcome.Granted l
 unfolding is_in
 only k l j = elim (in_cases k l [] j) [ inl q ↦ ap {B = Outcome} (λ z. outcome.Granted z) q | inr z ↦ absurd (differ z) ]
-
-abbrev Ending : ℕ → (Hold → Type 0) → Made Locks → Type 0
-Ending n K m = Issues n K m.seen.0.run.flow.next (of_ended m.seen) m.log
 
 module _ (e : Setting) where
   rollback_issues : (K : Hold → Type 0) (taken : List Hold) (x : Refusal) (p : ℕ) (r : Run) (t g grants : List ℕ)

@@ -1,4 +1,5 @@
 -- Each call: what its answer hands over was taken in its log, and the serials of a granted buffer rise.
+-- ---- what each call hands over
 use Rattle.std.specs.Prelude.{ℕ, zero, suc, ◌+◌, ◌≤◌, ◌<◌, ◌≡◌, refl, List, [], ◌∷◌, ◌++◌, length}
 use Rattle.std.proofs.Common.{ap, inl, inr, arith}
 use Rattle.model.specs.Log.{Made, Event, by_caller, attempt_begun, released}
@@ -16,17 +17,17 @@ use Rattle.types.specs.declared.Outcome.TheVariants as outcome
 use Rattle.types.specs.declared.Run.{Run}
 use Rattle.laws.specs.Lists.{words_back}
 use Rattle.history.specs.World.{World, number_of_lem}
-use Rattle.history.specs.Items.{Call, Says, try_acquire_lem, drop_lease, read_permission, competing_acquire, release_then_handoff, foreign_release, drop_preserving, acquire_preserving, environment, try_lock_lem, transactional, acquire_bucket, release_all_lem, acquire_locks, acquire_sorted, crew, crew_at_work_lem, perform}
+use Rattle.history.specs.Items.{Call, Says, try_acquire, drop_lease, read_permission, competing_acquire, release_then_handoff, foreign_release, drop_preserving, acquire_preserving, environment, try_lock, transactional, acquire_bucket, release_all, acquire_locks, acquire_sorted, crew, crew_at_work, perform}
 use Rattle.history.specs.Statements.{HandsOver}
 use Rattle.history.specs.Answers.{HandedOver, SerialsRise}
 use Rattle.history.specs.Tests.{none_in}
 use Rattle.history.proofs.Logs.{next_now}
 use Rattle.history.specs.Judged.{judged_at, acting, past_checks, performed}
 use Rattle.history.proofs.Shared.{handed_inner}
-use Rattle.history.proofs.Owing.{Nobody, Given}
-use Rattle.history.proofs.Handed.{TakenIn, taken_between, Issues, idle, none_new, follow, regard, take_issues, lock_issues, attempt_issues, retry_issues, locks_issues}
-
--- ---- what each call hands over
+use Rattle.history.specs.Owing.{Nobody, Given}
+use Rattle.history.specs.Handed.{TakenIn, Issues}
+use Rattle.history.proofs.Handed.{taken_between, idle, none_new, follow, regard, take_issues, lock_issues, attempt_issues, retry_issues, locks_issues}
+use Rattle.history.specs.HandedCalls.{Came, Rising, Rise}
 
 given_back : (boot : ℕ) (o : Outcome) (l : Hold) → HandsOver (answer_of boot o) [] l → Given o l
 given_back boot (outcome.Granted k) l e = ap {B = Outcome} (λ x. outcome.Granted x) e
@@ -45,16 +46,12 @@ acquire_issues n h t c =
     follow {xs = attempt_begun ∷ []} (none_new (omega arith))
     (follow (take_issues h.next t c) (idle (given_back h.boot (outcome_of c (take_of h.next t c).seen.0.answer))))
 
--- every lease handed over was taken
-abbrev Came : ℕ → Made (World × Says) → Type 0
-Came n m = (l : Hold) → HandsOver m.seen.1.answer m.seen.1.grants l → TakenIn n l m.log
-
 came : {n p : ℕ} {L : Hold → Type 0} {es : List Event} → Issues n Nobody p L es → (l : Hold) → L l → TakenIn n l es
 came k l x = elim (k.comes l x) [ inl z ↦ absurd z | inr t ↦ t ]
 
 past_checks_came : (w : World) (k : Call) → Came w.head.next (past_checks w k)
 unfolding number_of_lem
-past_checks_came w (try_acquire_lem c) = came (acquire_issues 1 w.head w.table c)
+past_checks_came w (try_acquire c) = came (acquire_issues 1 w.head w.table c)
 past_checks_came w (drop_lease l) = λ m x. absurd x
 past_checks_came w (read_permission l) = λ m x. absurd x
 past_checks_came w (competing_acquire l) = came (acquire_issues 1 w.head w.table l.cell)
@@ -67,8 +64,8 @@ past_checks_came w (foreign_release held l) =
 past_checks_came w (drop_preserving held l) = λ m x. absurd x
 past_checks_came w (acquire_preserving held c) = came (acquire_issues 1 w.head w.table c)
 past_checks_came w (environment script place held) = λ m x. absurd x
-past_checks_came w (try_lock_lem script place held c) =
-    let e = acting w (try_lock_lem script place held c) in
+past_checks_came w (try_lock script place held c) =
+    let e = acting w (try_lock script place held c) in
     came (regard (λ l x. x) (given_back w.head.boot _) (follow {xs = attempt_begun ∷ []} (none_new (omega arith)) (lock_issues e w.head.buckets (flow_of w.head.next place 0) w.table w.health c)))
 past_checks_came w (transactional registry script place held binding bucket) =
     let e = acting w (transactional registry script place held binding bucket) in
@@ -76,7 +73,7 @@ past_checks_came w (transactional registry script place held binding bucket) =
 past_checks_came w (acquire_bucket registry script place held binding bucket) =
     let e = acting w (acquire_bucket registry script place held binding bucket) in
     came (regard (λ l x. x) (settled_back w.head.boot _) (retry_issues e attempt_limit 0 none_yet w.head.buckets registry binding bucket (starting w.head place) w.table w.health))
-past_checks_came w (release_all_lem script place leases) = λ m x. absurd x
+past_checks_came w (release_all script place leases) = λ m x. absurd x
 past_checks_came w (acquire_locks registry script place held keys grants) =
     let e = acting w (acquire_locks registry script place held keys grants) in
     came (regard (λ l x. none_in l x) (λ l x. x) (locks_issues e (count_in keys) 0 w.head.buckets w.head.boot registry keys [] (starting w.head place) w.table w.health grants))
@@ -89,7 +86,7 @@ past_checks_came w (acquire_sorted registry script place held keys grants) =
     (locks_issues e (length (cells_sorted w.head.buckets registry keys)) 0 w.head.buckets w.head.boot registry chosen [] (starting w.head place) w.table w.health grants)) l
     (handed_inner w registry script place held keys grants l x))
 past_checks_came w (crew counts cells turns) = λ m x. absurd x
-past_checks_came w (crew_at_work_lem counts cells turns counters) = λ m x. absurd x
+past_checks_came w (crew_at_work counts cells turns counters) = λ m x. absurd x
 
 pub call_came : (w : World) (k : Call) → Came w.head.next (perform w k)
 call_came w k = performed (Came w.head.next) w k (λ r l x. absurd x) (λ _. past_checks_came w k)
@@ -98,13 +95,6 @@ pub calls_hand_over : HandedOver perform
 calls_hand_over w k l x =
     let t = call_came w k l x in
     (t.before, t.after, t.parts, omega (arith, t.was_next, next_now w t.before))
-
--- ---- the serials of a buffer
-
--- serials that rise from `low` to below `high`
-abbrev Rising : ℕ → List Hold → ℕ → Type 0
-Rising low [] high = low ≤ high
-Rising low (l ∷ ls) high = (low ≤ l.serial) × Rising (l.serial + 1) ls high
 
 one_more : (low high top : ℕ) (ls : List Hold) (l : Hold) → Rising low ls high → high ≤ l.serial → l.serial < top → Rising low (ls ++ (l ∷ [])) top
 one_more low high top [] l r a b = (omega arith, omega arith)
@@ -120,9 +110,6 @@ rises low high [] r i j a b = absurd (omega arith)
 rises low high (l ∷ ls) r i zero a b = absurd (omega arith)
 rises low high (l ∷ ls) r zero (suc j) a b = omega (arith, above (l.serial + 1) high ls r.1 j (omega arith))
 rises low high (l ∷ ls) r (suc i) (suc j) a b = rises (l.serial + 1) high ls r.1 i j (omega arith) (omega arith)
-
-abbrev Rise : Locks → Type 0
-Rise m = m.0.answer ≡ AllGranted → Rising 0 (holds_of m.1.1.1) m.0.run.flow.next
 
 locks_rise : (left p : ℕ) (e : Setting) (buckets boot : ℕ) (registry keys : List ℕ) (taken : List Hold) (r : Run) (t g grants : List ℕ)
     → Rising 0 taken r.flow.next → Rise (locks_of left p e buckets boot registry keys taken r t g grants).seen

@@ -1,4 +1,5 @@
 -- Document 02, L3: what is granted is on a header that was healthy at the second reading.
+-- ---- a grant of a lock, an attempt, a retry
 use Prim.Native.Nat.{ℕ, zero, suc, ◌+◌, ◌≤◌, ◌<◌}
 use Rattle.std.proofs.Math.Path.{◌≡◌, refl, subst}
 use Rattle.std.proofs.Common.{sym, ap, ◌∙◌, zero-add, arith}
@@ -32,28 +33,22 @@ use Rattle.choice.specs.Pick.{if_both}
 use Rattle.laws.specs.Outcomes.{Comes, granted, busy, poisoned, damaged, spent, lock_comes}
 use Rattle.laws.specs.Lists.{words_back}
 use Rattle.history.specs.World.{World, Healthy, now, attempts, number_of_lem}
-use Rattle.history.specs.Items.{Call, try_acquire_lem, drop_lease, read_permission, competing_acquire, release_then_handoff, foreign_release, drop_preserving, acquire_preserving, environment, try_lock_lem, transactional, acquire_bucket, release_all_lem, acquire_locks, acquire_sorted, crew, crew_at_work_lem, perform}
+use Rattle.history.specs.Items.{Call, try_acquire, drop_lease, read_permission, competing_acquire, release_then_handoff, foreign_release, drop_preserving, acquire_preserving, environment, try_lock, transactional, acquire_bucket, release_all, acquire_locks, acquire_sorted, crew, crew_at_work, perform}
 use Rattle.history.specs.Statements.{answers, log_of, Fails}
 use Rattle.history.specs.Answers.{ReadsAgain, GrantedHealthy, GrantPoint, LocksHealthy, PoisonedHoldsNothing}
 use Rattle.history.specs.Events.{Fit}
 use Rattle.history.proofs.Logs.{now_append, next_now, kept_fit}
 use Rattle.history.specs.Judged.{acting, past_checks, performed}
-use Rattle.history.proofs.Steps.{With, world_at, retry_kept}
+use Rattle.history.specs.Steps.{With, world_at}
+use Rattle.history.proofs.Steps.{retry_kept}
 use Rattle.history.proofs.Calls.{clear_fit, call_kept}
-use Rattle.history.proofs.Owing.{Given, no_grant, no_refused}
+use Rattle.history.specs.Owing.{Given}
+use Rattle.history.proofs.Owing.{no_grant, no_refused}
 use Rattle.history.specs.Counted.{number_append, lock_counted}
-use Rattle.history.proofs.Handed.{TakenIn, lock_issues}
+use Rattle.history.specs.Handed.{TakenIn}
+use Rattle.history.proofs.Handed.{lock_issues}
 use Rattle.history.proofs.Returns.{calls_leave_nothing}
-
--- ---- a grant of a lock, an attempt, a retry
-
--- this lease is taken in the log, no attempt begins behind that, and its header is healthy in g
-record GrantedSo (buckets : ℕ) (g : List ℕ) (l : Hold) (es : List Event) : Type 0 where
-  front : List Event
-  tail : List Event
-  taken : es ≡ front ++ (took by_caller l.cell l.serial ∷ tail)
-  same_attempt : number_of_lem attempts tail ≡ 0
-  healthy : get_or g (header_of buckets l.cell) 0 ≡ 0
+use Rattle.history.specs.Healthy.{GrantedSo, TriedSo, Point}
 
 so_behind : {buckets : ℕ} {g : List ℕ} {l : Hold} (xs : List Event) {ys : List Event} → GrantedSo buckets g l ys → GrantedSo buckets g l (xs ++ ys)
 so_behind xs k =
@@ -96,10 +91,6 @@ lock_so e buckets f t g c l q = go ((lock_issues e buckets f t g c).comes l q)
           healthy = comes_healthy (lock_comes e buckets c f t g) l q;
         }
 
--- of an attempt, of a retry
-abbrev TriedSo : ℕ → Made (With Tried) → Type 0
-TriedSo buckets m = (l : Hold) → Given m.seen.0.outcome l → GrantedSo buckets m.seen.1.1 l m.log
-
 module _ (e : Setting) (buckets : ℕ) (registry : List ℕ) (binding bucket : ℕ) where
   attempt_so : (r : Run) (t g : List ℕ) → TriedSo buckets (attempt_of e buckets registry binding bucket r t g)
   unfolding attempt_of
@@ -140,7 +131,7 @@ of_settled boot (outcome.Busy why) l e = let z : ◌≡◌ {A = ℕ} 0 1 = cc in
 of_settled boot (outcome.Refused r) l e = let z : ◌≡◌ {A = ℕ} 0 1 = cc in absurd (omega arith)
 
 past_checks_healthy : (w : World) (k : Call) (l : Lease) → ReadsAgain k → (past_checks w k).seen.1.answer ≡ Granted l → Healthy (past_checks w k).seen.0 l.cell
-past_checks_healthy w (try_acquire_lem c) l y a = absurd y
+past_checks_healthy w (try_acquire c) l y a = absurd y
 past_checks_healthy w (drop_lease m) l y a = absurd y
 past_checks_healthy w (read_permission m) l y a = absurd y
 past_checks_healthy w (competing_acquire m) l y a = absurd y
@@ -149,8 +140,8 @@ past_checks_healthy w (foreign_release held m) l y a = absurd y
 past_checks_healthy w (drop_preserving held m) l y a = absurd y
 past_checks_healthy w (acquire_preserving held c) l y a = absurd y
 past_checks_healthy w (environment script place held) l y a = absurd y
-past_checks_healthy w (try_lock_lem script place held c) l y a =
-    let e = acting w (try_lock_lem script place held c) in
+past_checks_healthy w (try_lock script place held c) l y a =
+    let e = acting w (try_lock script place held c) in
     (lock_so e w.head.buckets (flow_of w.head.next place 0) w.table w.health c (hold_in l) (of_answer w.head.boot _ l a)).healthy
 past_checks_healthy w (transactional registry script place held binding bucket) l y a =
     let e = acting w (transactional registry script place held binding bucket) in
@@ -158,11 +149,11 @@ past_checks_healthy w (transactional registry script place held binding bucket) 
 past_checks_healthy w (acquire_bucket registry script place held binding bucket) l y a =
     let e = acting w (acquire_bucket registry script place held binding bucket) in
     (retry_so e w.head.buckets registry binding bucket attempt_limit 0 none_yet (starting w.head place) w.table w.health (hold_in l) (of_settled w.head.boot _ l a)).healthy
-past_checks_healthy w (release_all_lem script place leases) l y a = absurd y
+past_checks_healthy w (release_all script place leases) l y a = absurd y
 past_checks_healthy w (acquire_locks registry script place held keys grants) l y a = absurd y
 past_checks_healthy w (acquire_sorted registry script place held keys grants) l y a = absurd y
 past_checks_healthy w (crew counts cells turns) l y a = absurd y
-past_checks_healthy w (crew_at_work_lem counts cells turns counters) l y a = absurd y
+past_checks_healthy w (crew_at_work counts cells turns counters) l y a = absurd y
 
 pub grants_healthy : GrantedHealthy perform
 grants_healthy w k l y =
@@ -207,15 +198,6 @@ module _ (e : Setting) (buckets boot : ℕ) (registry keys grants : List ℕ) wh
   locks_end zero p taken r t g z = refl
   locks_end (suc left) p taken r t g z = absurd (omega arith)
 
--- the point at which a lease of the buffer is granted; if it is the last, the log ends there
-record Point (w : World) (log : List Event) (Last : Type 0) (l : Hold) : Type 0 where
-  before : List Event
-  after : List Event
-  parts : log ≡ before ++ after
-  point : GrantPoint l before after
-  healthy : Healthy (now w before) l.cell
-  at_end_lem : Last → after ≡ []
-
 module _ (h : Head) (script : List ℕ) (ps : List Hold) (registry keys grants : List ℕ) where
   abbrev starts : Run → List ℕ → List ℕ → World
   starts r t g = world_at h r.flow.next t g
@@ -238,7 +220,7 @@ module _ (h : Head) (script : List ℕ) (ps : List Hold) (registry keys grants :
           next_key = k.point.next_key;
         };
         healthy = subst (λ (u : World). Healthy u l.cell) (ap (λ (u : World). now u k.before) q ∙ sym (now_append w xs k.before)) k.healthy;
-        at_end_lem = λ b. k.at_end_lem (f b);
+        at_end = λ b. k.at_end (f b);
       }
 
   locks_points : (left p : ℕ) (taken : List Hold) (r : Run) (t g : List ℕ) → Fit (starts r t g) → length taken ≡ p
@@ -285,14 +267,14 @@ module _ (h : Head) (script : List ℕ) (ps : List Hold) (registry keys grants :
                   next_key = locks_begin e h.buckets h.boot registry keys grants left (p + 1) (taken ++ (l ∷ [])) s u y;
                 };
                 healthy = subst (λ (v : World). Healthy v l.cell) q k.healthy;
-                at_end_lem = λ x. locks_end e h.buckets h.boot registry keys grants left (p + 1) (taken ++ (l ∷ [])) s u y (omega arith);
+                at_end = λ x. locks_end e h.buckets h.boot registry keys grants left (p + 1) (taken ++ (l ∷ [])) s u y (omega arith);
               })
 
 pub locks_grant_healthy : LocksHealthy perform
 locks_grant_healthy w registry script place held keys grants p a l =
     let k = points a in (
       (k.before, k.after, k.parts, k.point, k.healthy),
-      λ z. subst (λ (v : World). Healthy v (hold_at (holds_of (perform w many).seen.1.grants) p).cell) (ap (now w) (sym (append-nil k.before) ∙ ap (λ (x : List Event). k.before ++ x) (sym (k.at_end_lem z)) ∙ sym k.parts) ∙ sym (call_kept w many).kept.leads) k.healthy,
+      λ z. subst (λ (v : World). Healthy v (hold_at (holds_of (perform w many).seen.1.grants) p).cell) (ap (now w) (sym (append-nil k.before) ∙ ap (λ (x : List Event). k.before ++ x) (sym (k.at_end z)) ∙ sym k.parts) ∙ sym (call_kept w many).kept.leads) k.healthy,
     )
   where
     many : Call

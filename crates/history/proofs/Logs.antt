@@ -1,4 +1,5 @@
 -- The laws of one event over a whole log, and over a part of it; and `Kept`, what every step of a call keeps.
+-- ---- logs one behind the other
 use Rattle.std.specs.Prelude.{ℕ, ◌+◌, ◌*◌, ◌≤◌, ◌<◌, ◌≡◌, refl, List, [], ◌∷◌, ◌++◌}
 use Rattle.std.proofs.Common.{sym, ap, ◌∙◌, subst, append-nil, arith}
 use Rattle.model.specs.Log.{Event}
@@ -7,8 +8,7 @@ use Rattle.types.specs.declared.Head.{Head}
 use Rattle.types.specs.declared.Hold.{Hold}
 use Rattle.history.specs.World.{World, cells, Live, Apart, Legal, after_event, now, Lawful, bits, takes, releases, number_of_lem, Releases, Unreleased, Spent}
 use Rattle.history.specs.Events.{Good, good_after, apart_after, Fit, fit_after, same_arena, keep_after, live_before, next_after, spent_after, bits_after_lem}
-
--- ---- logs one behind the other
+use Rattle.history.specs.Logs.{Kept}
 
 pub now_append : (w : World) (xs ys : List Event) → now w (xs ++ ys) ≡ now (now w xs) ys
 now_append w [] ys = refl
@@ -78,14 +78,6 @@ live_back w (e ∷ es) l g t o v =
 pub spent_now : (w : World) (es : List Event) (s : ℕ) → Fit w → Lawful w es → Spent w s → Spent (now w es) s
 spent_now w [] s g t p = p
 spent_now w (e ∷ es) s g t p = spent_now (after_event w e) es s (fit_after w e g t.0) t.1 (spent_after w e s g t.0 p)
-
--- ---- what every step of a call keeps: its log is lawful and leads from the world w to the world v; a lease that is live in w and that P
--- protects is not released
-
-pub record Kept (w : World) (P : Hold → Type 0) (v : World) (log : List Event) : Type 0 where
-  pub lawful : Lawful w log
-  pub leads : v ≡ now w log
-  pub spares : (l : Hold) → P l → Live w l → Unreleased l log
 
 pub nothing : {w : World} {P : Hold → Type 0} → Kept w P w []
 nothing = record { lawful = tt; leads = refl; spares = λ l p v. tt }

@@ -22,35 +22,11 @@ use Rattle.history.specs.World.{World, Live}
 use Rattle.history.specs.Statements.{HandsOver}
 use Rattle.history.specs.Tests.{In, in_left, in_right, in_take, in_index}
 use Rattle.history.specs.Events.{Fit, lives}
-use Rattle.history.proofs.Logs.{Kept, nothing, event, kept_fit, kept_live, kept_next, weaken, chain, ended}
-use Rattle.history.proofs.Steps.{world_at, Leads, Gains, followed, of_run, of_tried, Won, won, none_yet_lem, no_more, boundary_kept, retry_kept}
-
--- the first n of a list are live, and no two of them are the same
-pub record Held (w : World) (n : ℕ) (ls : List Hold) : Type 0 where
-  pub enough : n ≤ length ls
-  pub all_live : (i : ℕ) → i < n → Live w (hold_at ls i)
-  pub distinct : (i j : ℕ) → i < n → j < n → hold_at ls i ≡ hold_at ls j → i ≡ j
-
--- a lease that is none of the first n
-abbrev pub Outside : List Hold → ℕ → Hold → Type 0
-Outside ls n l = (i : ℕ) → i < n → l ≡ hold_at ls i → ⊥
-
-abbrev pub of_locks : Head → Locks → World
-of_locks h a = world_at h a.0.run.flow.next a.1.0 a.1.1.0
-
--- what multi-lock hands over is live
-abbrev pub AllLive : Head → Locks → Type 0
-AllLive h a = (l : Hold) → HandsOver a.0.answer a.1.1.1 l → Live (of_locks h a) l
-
--- the leases taken so far, all since `first` was the next serial
-pub record Taken (w : World) (first : ℕ) (ls : List Hold) : Type 0 where
-  pub are_held : Held w (length ls) ls
-  pub young : (i : ℕ) → i < length ls → first ≤ (hold_at ls i).serial
-
--- a place of a list with one more
-data Place (ls : List Hold) (l : Hold) (i : ℕ) : Type 0 where
-  earlier : i < length ls → hold_at (ls ++ (l ∷ [])) i ≡ hold_at ls i → Place ls l i
-  last : i ≡ length ls → hold_at (ls ++ (l ∷ [])) i ≡ l → Place ls l i
+use Rattle.history.specs.Logs.{Kept}
+use Rattle.history.proofs.Logs.{nothing, event, kept_fit, kept_live, kept_next, weaken, chain, ended}
+use Rattle.history.specs.Steps.{world_at, of_run, of_tried, Won, won, none_yet_lem, no_more}
+use Rattle.history.proofs.Steps.{Leads, Gains, followed, boundary_kept, retry_kept}
+use Rattle.history.specs.Many.{Held, Outside, of_locks, AllLive, Taken, Place, earlier, last}
 
 place : (ls : List Hold) (l : Hold) (i : ℕ) → i < length (ls ++ (l ∷ [])) → Place ls l i
 place ls l i k = go (ℕ_discrete i (length ls))

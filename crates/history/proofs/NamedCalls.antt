@@ -1,4 +1,5 @@
 -- Every release in a call's log is one that the call or a step of its script named.
+-- ---- leases in a list
 use Prim.Native.Nat.{ℕ, ◌<◌}
 use Rattle.std.specs.Prelude.{◌≡◌, true, ◌&&◌, ltb, eqb, length}
 use Rattle.std.proofs.Math.Path.{refl}
@@ -22,31 +23,24 @@ use Rattle.types.specs.declared.Hold.{Hold}
 use Rattle.types.specs.declared.Stepped.{Stepped}
 use Rattle.choice.specs.Pick.{if_both}
 use Rattle.history.specs.World.{World}
-use Rattle.history.specs.Items.{Call, Says, try_acquire_lem, drop_lease, read_permission, competing_acquire, release_then_handoff, foreign_release, drop_preserving, acquire_preserving, environment, try_lock_lem, transactional, acquire_bucket, release_all_lem, acquire_locks, acquire_sorted, crew, crew_at_work_lem, script_of_lem, place_of, given_up, foreign, perform, Clear, rules}
+use Rattle.history.specs.Items.{Call, Says, try_acquire, drop_lease, read_permission, competing_acquire, release_then_handoff, foreign_release, drop_preserving, acquire_preserving, environment, try_lock, transactional, acquire_bucket, release_all, acquire_locks, acquire_sorted, crew, crew_at_work, script_of, place_of, given_up, foreign, perform, Clear, rules}
 use Rattle.history.specs.Statements.{log_of, Named, NamedAlone}
 use Rattle.history.specs.Tests.{in_take, if_cases}
 use Rattle.history.specs.Judged.{judged_at, acting, past_checks, performed}
 use Rattle.history.proofs.Calls.{words_leases}
 use Rattle.history.specs.Naming.{Leases, Accounted, any, none, more, andthen, accounted, handed, and_took, at_script, at_caller, boundary_accounted, take_accounted, lock_accounted, attempt_accounted, retry_accounted, back_accounted, locks_accounted}
 use Rattle.history.proofs.NamingCrew.{crew_accounted}
-
--- ---- leases in a list
+use Rattle.history.specs.NamedCalls.{Mine, Right}
 
 in_at : (ls : List Hold) (i : ℕ) → i < length ls → is_in (hold_at ls i) ls ≡ true
 in_at ls i h = rw (take-length ls) at (in_take ls (length ls) i no_hold h h)
-
--- ---- the calls
-
--- the leases that a call was given to give up
-abbrev Mine : Call → Leases
-Mine k c s = is_in (hold_of c s) (given_up k) ≡ true
 
 acquire_accounted : (n : ℕ) (h : Head) (t : List ℕ) (c : ℕ) (A : Leases) → Accounted [] 0 A (acquire_of n h t c).log any
 unfolding acquire_of
 acquire_accounted n h t c A = more tt (handed (take_accounted [] 0 (and_took A attempt_begun) h.next t c))
 
-past_checks_accounted : (w : World) (k : Call) → Clear (rules w k) → Accounted (script_of_lem k) (place_of k) (Mine k) (past_checks w k).log any
-past_checks_accounted w (try_acquire_lem c) _ = acquire_accounted 1 w.head w.table c _
+past_checks_accounted : (w : World) (k : Call) → Clear (rules w k) → Accounted (script_of k) (place_of k) (Mine k) (past_checks w k).log any
+past_checks_accounted w (try_acquire c) _ = acquire_accounted 1 w.head w.table c _
 past_checks_accounted w (drop_lease l) _ = more (in_at (hold_in l ∷ []) 0 (omega arith)) (none tt)
 past_checks_accounted w (read_permission l) _ = none tt
 past_checks_accounted w (competing_acquire l) _ = acquire_accounted 1 w.head w.table l.cell _
@@ -59,16 +53,16 @@ past_checks_accounted w (drop_preserving held l) _ = more (in_at (hold_in l ∷ 
 past_checks_accounted w (acquire_preserving held c) _ = acquire_accounted 1 w.head w.table c _
 past_checks_accounted w (environment script place held) _ =
     accounted (boundary_accounted (acting w (environment script place held)) place (flow_of w.head.next place 0) w.table w.health _ (omega arith))
-past_checks_accounted w (try_lock_lem script place held c) _ =
-    more tt (accounted (lock_accounted (acting w (try_lock_lem script place held c)) w.head.buckets place (flow_of w.head.next place 0) w.table w.health c _ (omega arith)))
+past_checks_accounted w (try_lock script place held c) _ =
+    more tt (accounted (lock_accounted (acting w (try_lock script place held c)) w.head.buckets place (flow_of w.head.next place 0) w.table w.health c _ (omega arith)))
 past_checks_accounted w (transactional registry script place held binding bucket) _ =
     let k = transactional registry script place held binding bucket in
     accounted (attempt_accounted (acting w k) place w.head.buckets registry binding bucket (starting w.head place) w.table w.health (Mine k) (omega arith))
 past_checks_accounted w (acquire_bucket registry script place held binding bucket) _ =
     let k = acquire_bucket registry script place held binding bucket in
     accounted (retry_accounted (acting w k) place w.head.buckets registry binding bucket attempt_limit 0 none_yet (starting w.head place) w.table w.health (Mine k) (omega arith))
-past_checks_accounted w (release_all_lem script place leases) _ =
-    back_accounted (lease_count leases) (acting w (release_all_lem script place leases)) place (holds_of leases) (starting w.head place) w.table w.health _ (omega arith)
+past_checks_accounted w (release_all script place leases) _ =
+    back_accounted (lease_count leases) (acting w (release_all script place leases)) place (holds_of leases) (starting w.head place) w.table w.health _ (omega arith)
     (λ i h. in_at (holds_of leases) i (omega (arith, words_leases leases)))
 past_checks_accounted w (acquire_locks registry script place held keys grants) _ =
     let k = acquire_locks registry script place held keys grants in
@@ -81,29 +75,14 @@ past_checks_accounted w (acquire_sorted registry script place held keys grants) 
     locks_accounted (acting w k) place w.head.buckets w.head.boot registry (sorted_keys w.head.buckets registry keys) grants (length (cells_sorted w.head.buckets registry keys)) 0 [] (starting w.head place) w.table w.health (Mine k) (omega arith)
     (λ i h. absurd (omega arith)))
 past_checks_accounted w (crew counts cells turns) fine = crew_accounted rests w counts cells turns [] (Mine (crew counts cells turns)) (crew_plan _ _ _ counts cells turns fine)
-past_checks_accounted w (crew_at_work_lem counts cells turns counters) fine =
-    crew_accounted adds w counts cells turns counters (Mine (crew_at_work_lem counts cells turns counters)) (crew_at_work_plan _ _ _ counts cells turns counters fine)
+past_checks_accounted w (crew_at_work counts cells turns counters) fine =
+    crew_accounted adds w counts cells turns counters (Mine (crew_at_work counts cells turns counters)) (crew_at_work_plan _ _ _ counts cells turns counters fine)
 
-call_accounted : (w : World) (k : Call) → Accounted (script_of_lem k) (place_of k) (Mine k) (log_of w k) any
-call_accounted w k = performed (λ m. Accounted (script_of_lem k) (place_of k) (Mine k) m.log any) w k (λ r. none tt) (past_checks_accounted w k)
+call_accounted : (w : World) (k : Call) → Accounted (script_of k) (place_of k) (Mine k) (log_of w k) any
+call_accounted w k = performed (λ m. Accounted (script_of k) (place_of k) (Mine k) m.log any) w k (λ r. none tt) (past_checks_accounted w k)
 
 pub calls_named : Named perform
 calls_named w k c s before after = (λ e. at_script c s (call_accounted w k) before after e, λ e. at_caller c s (call_accounted w k) before after e)
-
--- ---- a lone foreign step
-
-abbrev Right : ℕ → ℕ → ℕ → Event → Type 0
-Right kind place number attempt_begun = Unit {0}
-Right kind place number boundary_run = Unit {0}
-Right kind place number yielded = Unit {0}
-Right kind place number spun = Unit {0}
-Right kind place number step_dropped = Unit {0}
-Right kind place number (took a c s) = Unit {0}
-Right kind place number (released a c s) = (a ≡ by_script) × (kind ≡ 2) × (place ≡ c) × (number ≡ s)
-Right kind place number (waiters_set c n) = Unit {0}
-Right kind place number (health_set i n) = Unit {0}
-Right kind place number (held_all_lem m) = Unit {0}
-Right kind place number (added m c v) = Unit {0}
 
 module _ (kind place number : ℕ) where
   -- every release of the log is right

@@ -22,7 +22,8 @@ use Rattle.history.specs.World.{World}
 use Rattle.history.specs.Items.{Clear}
 use Rattle.history.specs.Tests.{if_cases}
 use Rattle.history.specs.Judged.{shifted}
-use Rattle.history.proofs.Crew.{limits, Holds}
+use Rattle.history.specs.Crew.{Holds}
+use Rattle.history.proofs.Crew.{limits}
 use Rattle.history.specs.Naming.{Leases, Sub, Accounted, any, none, more, andthen, accounted, Given, lock_accounted}
 
 -- a list after one place was written, perhaps past its end

@@ -1,4 +1,5 @@
 -- A foreign step is another caller's call, and a call's log is a history of single calls.
+-- ---- a call that takes or releases
 use Rattle.std.specs.Prelude.{ℕ, ◌<◌, ◌≡◌, refl, List, [], ◌∷◌, ◌++◌, Bool, true, false, ◌&&◌, ltb, length}
 use Rattle.std.proofs.Common.{sym, ap, ◌∙◌, subst, append-nil, append_assoc, arith, ltb-true, leb-false, lt-ltb, le-leb, eq-eqb}
 use Rattle.std.proofs.lemmas.Bool.{lt-leb, not-false}
@@ -17,7 +18,7 @@ use Rattle.types.specs.declared.Stepped.{Stepped}
 use Rattle.types.specs.declared.Took.{Took}
 use Rattle.choice.specs.Pick.{both}
 use Rattle.history.specs.World.{World, world_of, cells, Free, Live, Legal, after_event, now, Lawful}
-use Rattle.history.specs.Items.{Says, says, try_acquire_lem, drop_lease, perform, foreign, Item, Course, next_item, run, Call, cold, foreign_step, history_of, call, noted, saying, entry_of}
+use Rattle.history.specs.Items.{Says, says, try_acquire, drop_lease, perform, foreign, Item, Course, next_item, run, Call, cold, foreign_step, history_of, call, noted, saying, entry_of}
 use Rattle.history.specs.Statements.{answers, leaves, log_of}
 use Rattle.history.specs.Callers.{ShapeFits, TakesAlike, TakeIsCall, ReleasesAlike, ReleaseIsCall, single, singles, replay, replays, BySingleCalls, HistoriesSingle, DoneSingly}
 use Rattle.history.specs.Tests.{differ, free_words, is_free_state, if_cases}
@@ -27,11 +28,10 @@ use Rattle.history.specs.Judged.{performed}
 use Rattle.history.proofs.Calls.{at_point}
 use Rattle.history.proofs.Courses.{events_append}
 use Rattle.history.proofs.Writers.{through}
-
--- ---- a call that takes or releases
+use Rattle.history.specs.Others.{ForeignTake, ForeignRelease, ComesTo, performed_release, dropped_release, performed_take, dropped_take}
 
 taken_alone : (w : World) (c : ℕ) → ShapeFits w → Free w c → w.head.next < last_serial
-    → perform w (try_acquire_lem c)
+    → perform w (try_acquire c)
     ≡ record { seen = (after_event w (took by_caller c w.head.next), says (Granted (lease_of c w.head.next w.head.boot)) (counts_of 1 0 0 0) 0 []); log = attempt_begun ∷ took by_caller c w.head.next ∷ [] }
 unfolding perform try_acquire_of cell_rules first acquire_of take_of
 taken_alone w c s f l = rw (s, lt-leb (cells w) c f.0, f.1, lt-ltb w.head.next last_serial l)
@@ -43,9 +43,9 @@ unfolding perform drop_lease_of lease_rules first
 released_alone w c s f l = rw (f, eq-eqb w.head.boot w.head.boot refl, l)
 
 -- a cell that cannot be taken: all stays
-not_taken : (w : World) (c : ℕ) → (Free w c → w.head.next < last_serial → ⊥) → leaves w (try_acquire_lem c) ≡ w
+not_taken : (w : World) (c : ℕ) → (Free w c → w.head.next < last_serial → ⊥) → leaves w (try_acquire c) ≡ w
 unfolding cell_rules acquire_of take_of
-not_taken w c n = performed (λ m. m.seen.0 ≡ w) w (try_acquire_lem c) (λ r. refl) (λ k. go (state_at w.head.next w.table c) refl (leb-false (cells w) c k.1.0))
+not_taken w c n = performed (λ m. m.seen.0 ≡ w) w (try_acquire c) (λ r. refl) (λ k. go (state_at w.head.next w.table c) refl (leb-false (cells w) c k.1.0))
   where
     Of : Made (Took × List ℕ) → Type 0
     Of m = world_of (spent_to w.head m.seen.0.next) m.seen.1 w.health ≡ w
@@ -58,14 +58,6 @@ not_taken w c n = performed (λ m. m.seen.0 ≡ w) w (try_acquire_lem c) (λ r. 
 not_released : (w : World) (l : Lease) → is_live w.head.next (cells w) w.table (hold_in l) ≡ false → leaves w (drop_lease l) ≡ w
 unfolding lease_rules
 not_released w l n = performed (λ m. m.seen.0 ≡ w) w (drop_lease l) (λ r. refl) (λ k. absurd (differ (sym n ∙ not-false _ k.1.1.0)))
-
--- ---- a lone foreign step
-
--- what a foreign take comes to
-data ForeignTake (w : World) (c : ℕ) : Made World → Type 0 where
-  performed_take : Free w c → w.head.next < last_serial
-      → ForeignTake w c (record { seen = after_event w (took by_script c w.head.next); log = took by_script c w.head.next ∷ [] })
-  dropped_take : (Free w c → w.head.next < last_serial → ⊥) → ForeignTake w c (record { seen = w; log = step_dropped ∷ [] })
 
 free_test : (w : World) (c : ℕ) → Free w c → is_free (bit_at w.table c) (owner_at w.table c) ≡ true
 unfolding is_free
@@ -91,7 +83,7 @@ foreign_take w c number =
 pub takes_alike : TakesAlike foreign
 takes_alike w c number s = go (foreign_take w c number)
   where
-    go : {m : Made World} → ForeignTake w c m → m.seen ≡ leaves w (try_acquire_lem c)
+    go : {m : Made World} → ForeignTake w c m → m.seen ≡ leaves w (try_acquire c)
     go (performed_take f l) = sym (ap (λ (m : Made (World × Says)). m.seen.0) (taken_alone w c s f l))
     go (dropped_take n) = sym (not_taken w c n)
 
@@ -99,18 +91,13 @@ pub take_is_call : TakeIsCall foreign
 take_is_call w c number s fit = go (foreign_take w c number)
   where
     go : {m : Made World} → ForeignTake w c m → m.log ≡ took by_script c s ∷ []
-        → (answers w (try_acquire_lem c) ≡ Granted (lease_of c s w.head.boot)) × (log_of w (try_acquire_lem c) ≡ attempt_begun ∷ took by_caller c s ∷ [])
+        → (answers w (try_acquire c) ≡ Granted (lease_of c s w.head.boot)) × (log_of w (try_acquire c) ≡ attempt_begun ∷ took by_caller c s ∷ [])
     go (performed_take f l) e =
         let n : w.head.next ≡ s = cc in
         let p = taken_alone w c fit f l in
-        subst (λ (x : ℕ). (answers w (try_acquire_lem c) ≡ Granted (lease_of c x w.head.boot)) × (log_of w (try_acquire_lem c) ≡ attempt_begun ∷ took by_caller c x ∷ [])) n
+        subst (λ (x : ℕ). (answers w (try_acquire c) ≡ Granted (lease_of c x w.head.boot)) × (log_of w (try_acquire c) ≡ attempt_begun ∷ took by_caller c x ∷ [])) n
         (ap (λ (m : Made (World × Says)). m.seen.1.answer) p, ap (λ (m : Made (World × Says)). m.log) p)
     go (dropped_take n) e = let z : ◌≡◌ {A = ℕ} 0 1 = cc in absurd (omega arith)
-
--- what a foreign release comes to: nobody's lease is protected between calls
-data ForeignRelease (w : World) (c s : ℕ) : Made World → Type 0 where
-  performed_release : Live w (hold_of c s) → ForeignRelease w c s (record { seen = after_event w (released by_script c s); log = released by_script c s ∷ [] })
-  dropped_release : is_live w.head.next (cells w) w.table (hold_of c s) ≡ false → ForeignRelease w c s (record { seen = w; log = step_dropped ∷ [] })
 
 foreign_release : (w : World) (c s : ℕ) → ForeignRelease w c s (foreign w 2 c s)
 unfolding foreign step_of step_release_of is_in
@@ -147,11 +134,6 @@ health_alone : (w : World) (i n : ℕ) → Legal w (health_set i n) → foreign 
 unfolding foreign step_of step_health_of
 health_alone w i n l = rw (lt-ltb i w.head.headers l.0, le-leb n 1 l.1)
 
--- one event, behind others: what is done, and the world that is left
-record ComesTo (k : Course) (is : List Item) (es : List Event) (v : World) : Type 0 where
-  did : history_of (run k is) ≡ history_of k ++ es
-  left : (run k is).world ≡ v
-
 one_item : (k : Course) (es : List Event) (s : Says) (v : World) → history_of (noted k es s v) ≡ history_of k ++ es
 one_item k es s v = events_append k.entries (entry_of es s ∷ []) ∙ ap (λ (l : List Event). history_of k ++ l) (append-nil es)
 
@@ -185,7 +167,7 @@ replayed k spun g l = no_item k
 replayed k step_dropped g l = no_item k
 replayed k (took a c s) g l =
     let w = k.world in
-    rw l.1.0 (called k (try_acquire_lem c) (taken_alone w c (fits w.head (length w.table) g.shape) l.0 (subst (λ (x : ℕ). x < last_serial) l.1.0 l.1.1)))
+    rw l.1.0 (called k (try_acquire c) (taken_alone w c (fits w.head (length w.table) g.shape) l.0 (subst (λ (x : ℕ). x < last_serial) l.1.0 l.1.1)))
 replayed k (released a c s) g l =
     let w = k.world in
     called k (drop_lease (lease_of c s w.head.boot)) (released_alone w c s (fits w.head (length w.table) g.shape) l)

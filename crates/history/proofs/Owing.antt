@@ -1,4 +1,5 @@
 -- What the caller takes in a log is handed over at its end, or released by the caller later in it. These laws read logs and answers only.
+-- ---- logs
 use Prim.Native.Nat.{ℕ, zero, suc, ◌+◌, ◌-◌, ◌%◌, ◌≤◌}
 use Rattle.std.specs.Prelude.{◌≡◌, refl, ◌&&◌, ◌⊎◌, ltb, eqb, length, take}
 use Rattle.std.proofs.Common.{ap, arith, take-suc}
@@ -33,33 +34,8 @@ use Rattle.choice.specs.Pick.{if_both}
 use Rattle.laws.specs.Lists.{words_back}
 use Rattle.history.specs.Statements.{HandsOver}
 use Rattle.history.specs.Tests.{differ, In, in_first, in_cases, in_left, in_right, in_either, if_cases}
-use Rattle.history.proofs.Steps.{With}
-
--- ---- logs
-
--- the caller releases this cell with this serial
-pub data Frees (l : Hold) : List Event → Type 0 where
-  freed_here : (es : List Event) → Frees l (released by_caller l.cell l.serial ∷ es)
-  freed_later : (e : Event) {es : List Event} → Frees l es → Frees l (e ∷ es)
-
--- what an event leaves to do, where L are the leases handed over at the end
-abbrev pub Owed : (Hold → Type 0) → Event → List Event → Type 0
-Owed L attempt_begun es = Unit {0}
-Owed L boundary_run es = Unit {0}
-Owed L yielded es = Unit {0}
-Owed L spun es = Unit {0}
-Owed L step_dropped es = Unit {0}
-Owed L (took by_caller c s) es = L (hold_of c s) ⊎ Frees (hold_of c s) es
-Owed L (took by_script c s) es = Unit {0}
-Owed L (released a c s) es = Unit {0}
-Owed L (waiters_set c n) es = Unit {0}
-Owed L (health_set i n) es = Unit {0}
-Owed L (held_all_lem m) es = Unit {0}
-Owed L (added m c v) es = Unit {0}
-
-pub data Settles (L : Hold → Type 0) : List Event → Type 0 where
-  none : Settles L []
-  more : (e : Event) {es : List Event} → Owed L e es → Settles L es → Settles L (e ∷ es)
+use Rattle.history.specs.Steps.{With}
+use Rattle.history.specs.Owing.{Frees, Owed, Settles, Nobody, Silent, Given, of_take, of_locked, of_tried, of_ended, freed_here, freed_later, none, more}
 
 frees_left : {l : Hold} {xs : List Event} (ys : List Event) → Frees l xs → Frees l (xs ++ ys)
 frees_left ys (freed_here es) = freed_here (es ++ ys)
@@ -99,9 +75,6 @@ pub settled_at : {L : Hold → Type 0} (c s : ℕ) (before after : List Event) �
 settled_at c s [] after (more e o a) = o
 settled_at c s (x ∷ before) after (more e o a) = settled_at c s before after a
 
-abbrev pub Nobody : Hold → Type 0
-Nobody l = ⊥
-
 -- a definition of the model hands over L of what it gives; leases that are handed to it go on to L, or it releases them
 pub record Hands {A : Type 0} (L : A → Hold → Type 0) (before : Hold → Type 0) (m : Made A) : Type 0 where
   pub settles : Settles (L m.seen) m.log
@@ -127,11 +100,6 @@ nobody_owes a = loosen (λ l x. absurd x) a
 after_nobody : {A : Type 0} {L : A → Hold → Type 0} {before : Hold → Type 0} {xs : List Event} {m : Made A}
     → Settles Nobody xs → Hands L before m → Hands L before (record { seen = m.seen; log = xs ++ m.log })
 after_nobody a b = hand (nobody_owes a) (λ l x. inl x) b
-
--- ---- foreign steps and boundaries
-
-abbrev Silent : {A : Type 0} → Made A → Type 0
-Silent m = Settles Nobody m.log
 
 silent_end : {es : List Event} → Settles Nobody es → Settles Nobody (es ++ [])
 silent_end a = join a none (λ l x. absurd x)
@@ -167,15 +135,6 @@ module _ (e : Setting) where
   unfolding boundary_of
   boundary_silent f t g = more boundary_run tt (steps_silent (steps_in e.script - f.place) f t g)
 
--- ---- a lock
-
--- what an outcome hands over
-abbrev pub Given : Outcome → Hold → Type 0
-Given o l = o ≡ outcome.Granted l
-
-abbrev of_take : ℕ → Take → Hold → Type 0
-of_take c a = Given (outcome_of c a)
-
 pub take_hands : (n : ℕ) (t : List ℕ) (c : ℕ) → Settles (of_take c (take_of n t c).seen.0.answer) (take_of n t c).log
 unfolding take_of
 take_hands n t c = go (state_at n t c)
@@ -194,15 +153,6 @@ no_grant e = let z : ◌≡◌ {A = ℕ} 0 1 = cc in omega arith
 
 pub no_refused : {r : Refusal} {l : Hold} → outcome.Refused r ≡ outcome.Granted l → ⊥
 no_refused e = let z : ◌≡◌ {A = ℕ} 0 1 = cc in omega arith
-
-abbrev of_locked : With Locked → Hold → Type 0
-of_locked a = Given a.0.answer
-
-abbrev of_tried : With Tried → Hold → Type 0
-of_tried a = Given a.0.outcome
-
-abbrev pub of_ended : Locks → Hold → Type 0
-of_ended a = HandsOver a.0.answer a.1.1.1
 
 module _ (e : Setting) (buckets : ℕ) where
   late_hands : (f : Flow) (t g : List ℕ) (c s : ℕ) → Hands of_locked (λ l. hold_of c s ≡ l) (late_stage_of e buckets f t g c s)

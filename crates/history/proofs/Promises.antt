@@ -17,37 +17,14 @@ use Rattle.types.specs.declared.Lease.{Lease}
 use Rattle.types.specs.declared.ScriptReply.{ScriptReply}
 use Rattle.types.specs.declared.Reply.{Reply}
 use Rattle.history.specs.World.{World, world_of, now}
-use Rattle.history.specs.Items.{Call, Says, says, try_acquire_lem, drop_lease, read_permission, competing_acquire, release_then_handoff, foreign_release, drop_preserving, acquire_preserving, environment, try_lock_lem, transactional, acquire_bucket, release_all_lem, acquire_locks, acquire_sorted, crew, perform, preparing, crew_at_work_lem, salvaging}
+use Rattle.history.specs.Items.{Call, Says, says, try_acquire, drop_lease, read_permission, competing_acquire, release_then_handoff, foreign_release, drop_preserving, acquire_preserving, environment, try_lock, transactional, acquire_bucket, release_all, acquire_locks, acquire_sorted, crew, perform, preparing, crew_at_work, salvaging}
 use Rattle.history.specs.Statements.{HandsOver, log_of}
 use Rattle.history.proofs.HandedCalls.{calls_hand_over}
-
--- this is what is seen of the call
-abbrev pub Performs : World → Call → World × Says → Type 0
-Performs w k o = o ≡ (perform w k).seen
-
--- what is handed back, read as a world and what was said: by kind of call
-abbrev pub of_reply : World → Reply × List ℕ → World × Says
-of_reply w (r, t) = (world_of r.head t w.health, says r.answer r.counts 0 [])
-
-abbrev pub of_reading : World → Reply → World × Says
-of_reading w r = (world_of r.head w.table w.health, says r.answer r.counts 0 [])
-
-abbrev pub of_script_reply : ScriptReply × (List ℕ × List ℕ) → World × Says
-of_script_reply (r, (t, g)) = (world_of r.head t g, says r.answer r.counts r.place [])
-
-abbrev pub of_locks : ScriptReply × (List ℕ × (List ℕ × List ℕ)) → World × Says
-of_locks (r, (t, (g, b))) = (world_of r.head t g, says r.answer r.counts r.place b)
-
-abbrev pub of_crew : World → CrewReply × List ℕ → World × Says
-of_crew w (r, t) = (world_of r.head t w.health, says r.answer (counts_of 0 0 0 0) 0 [])
-
--- the counters are no part of the world
-abbrev pub of_crew_at_work : World → CrewReply × (List ℕ × List ℕ) → World × Says
-of_crew_at_work w (r, (t, x)) = of_crew w (r, t)
+use Rattle.history.specs.Promises.{Performs, of_reply, of_reading, of_script_reply, of_locks, of_crew, of_crew_at_work}
 
 module _ (w : World) where
   module _ (o : Reply × List ℕ) where
-    pub try_acquire_performs : (c : ℕ) → o ≡ (try_acquire_of w.head w.table c).seen → Performs w (try_acquire_lem c) (of_reply w o)
+    pub try_acquire_performs : (c : ℕ) → o ≡ (try_acquire_of w.head w.table c).seen → Performs w (try_acquire c) (of_reply w o)
     unfolding perform
     try_acquire_performs c p = ap (of_reply w) p
 
@@ -84,7 +61,7 @@ module _ (w : World) where
     unfolding perform
     environment_performs held p = ap of_script_reply p
 
-    pub try_lock_performs : (held : List ℕ) (c : ℕ) → o ≡ (try_lock_of w.head w.table w.health script place held c).seen → Performs w (try_lock_lem script place held c) (of_script_reply o)
+    pub try_lock_performs : (held : List ℕ) (c : ℕ) → o ≡ (try_lock_of w.head w.table w.health script place held c).seen → Performs w (try_lock script place held c) (of_script_reply o)
     unfolding perform
     try_lock_performs held c p = ap of_script_reply p
 
@@ -98,7 +75,7 @@ module _ (w : World) where
     unfolding perform
     acquire_bucket_performs registry held binding bucket p = ap of_script_reply p
 
-    pub release_all_performs : (leases : List ℕ) → o ≡ (release_all_of w.head w.table w.health script place leases).seen → Performs w (release_all_lem script place leases) (of_script_reply o)
+    pub release_all_performs : (leases : List ℕ) → o ≡ (release_all_of w.head w.table w.health script place leases).seen → Performs w (release_all script place leases) (of_script_reply o)
     unfolding perform
     release_all_performs leases p = ap of_script_reply p
 
@@ -120,7 +97,7 @@ module _ (w : World) where
   crew_performs o counts cells turns p = ap (of_crew w) p
 
   pub crew_at_work_performs : (o : CrewReply × (List ℕ × List ℕ)) (counts cells turns counters : List ℕ)
-      → o ≡ (crew_at_work_of w.head w.table w.health counts cells turns counters).seen → Performs w (crew_at_work_lem counts cells turns counters) (of_crew_at_work w o)
+      → o ≡ (crew_at_work_of w.head w.table w.health counts cells turns counters).seen → Performs w (crew_at_work counts cells turns counters) (of_crew_at_work w o)
   unfolding perform
   crew_at_work_performs o counts cells turns counters p = ap (of_crew_at_work w) p
 
@@ -139,9 +116,9 @@ salvage_performs o h t g report list p = ap (λ (x : Salvage). (x.0.answer, worl
 -- a `try_lock` that meets its promise and answers `Granted l` took l, with the serial that was next then
 pub granted_was_taken : (w : World) (o : ScriptReply × (List ℕ × List ℕ)) (script : List ℕ) (place : ℕ) (held : List ℕ) (c : ℕ) (l : Lease)
     → o ≡ (try_lock_of w.head w.table w.health script place held c).seen → o.0.answer ≡ Granted l
-    → (before after : List Event) × (log_of w (try_lock_lem script place held c) ≡ before ++ (took by_caller l.cell l.serial ∷ after)) × (l.serial ≡ (now w before).head.next)
+    → (before after : List Event) × (log_of w (try_lock script place held c) ≡ before ++ (took by_caller l.cell l.serial ∷ after)) × (l.serial ≡ (now w before).head.next)
 granted_was_taken w o script place held c l p a =
-    let k = try_lock_lem script place held c in
+    let k = try_lock script place held c in
     let said = try_lock_performs w o script place held c p in
     let gives : HandsOver o.0.answer [] (hold_in l) = subst (λ x. HandsOver x [] (hold_in l)) (sym a) refl in
     calls_hand_over w k (hold_in l) (subst (λ (x : World × Says). HandsOver x.1.answer x.1.grants (hold_in l)) said gives)

@@ -20,14 +20,15 @@ use Rattle.types.specs.declared.Reply.{Reply}
 use Rattle.types.specs.declared.Run.{Run}
 use Rattle.laws.specs.Words.{Seen, here, there, see}
 use Rattle.history.specs.World.{World, cells, Live, after_event, now, Lawful}
-use Rattle.history.specs.Items.{Call, Says, try_acquire_lem, drop_lease, read_permission, competing_acquire, release_then_handoff, foreign_release, drop_preserving, acquire_preserving, environment, try_lock_lem, transactional, acquire_bucket, release_all_lem, acquire_locks, acquire_sorted, crew, crew_at_work_lem, perform, IsCrew, buffer, Clear, rules}
+use Rattle.history.specs.Items.{Call, Says, try_acquire, drop_lease, read_permission, competing_acquire, release_then_handoff, foreign_release, drop_preserving, acquire_preserving, environment, try_lock, transactional, acquire_bucket, release_all, acquire_locks, acquire_sorted, crew, crew_at_work, perform, IsCrew, buffer, Clear, rules}
 use Rattle.history.specs.Statements.{HandsOver, answers, log_of, NothingKept, leaves, GivenBack, Gives, NothingNew, buffer_in, Fails}
 use Rattle.history.specs.Tests.{alive, state_held, Alive}
 use Rattle.history.specs.Events.{Fit, fit_after, lives, next_after, live_before, at}
 use Rattle.history.specs.Judged.{clear_back, judged_at, acting, sorted_locks, past_checks, performed}
 use Rattle.history.proofs.Shared.{inner_handed}
 use Rattle.history.proofs.Calls.{words_leases, call_kept, call_fit}
-use Rattle.history.proofs.Owing.{Frees, freed_here, freed_later, Settles, none, more, join, loosen, nobody_owes, Nobody, Given, boundary_silent, take_hands, lock_hands, attempt_hands, retry_hands, give_back_hands, locks_hands, frees_right, freed_at, settled_at}
+use Rattle.history.specs.Owing.{Frees, freed_here, freed_later, Settles, none, more, Nobody, Given}
+use Rattle.history.proofs.Owing.{join, loosen, nobody_owes, boundary_silent, take_hands, lock_hands, attempt_hands, retry_hands, give_back_hands, locks_hands, frees_right, freed_at, settled_at}
 
 -- ---- what is released is gone
 
@@ -83,7 +84,7 @@ module _ (h : Head) (t : List ℕ) where
 
 past_checks_settles : (w : World) (k : Call) → (IsCrew k → ⊥) → Clear (rules w k) → let m = past_checks w k in Settles (HandsOver m.seen.1.answer m.seen.1.grants) m.log
 unfolding held_lease_rules
-past_checks_settles w (try_acquire_lem c) n k = acquire_settles w.head w.table 1 c
+past_checks_settles w (try_acquire c) n k = acquire_settles w.head w.table 1 c
 past_checks_settles w (drop_lease l) n k = more _ tt none
 past_checks_settles w (read_permission l) n k = none
 past_checks_settles w (competing_acquire l) n k = acquire_settles w.head w.table 1 l.cell
@@ -97,16 +98,16 @@ past_checks_settles w (drop_preserving held l) n k = more _ tt none
 past_checks_settles w (acquire_preserving held c) n k = acquire_settles w.head w.table 1 c
 past_checks_settles w (environment script place held) n k =
     nobody_owes (boundary_silent (acting w (environment script place held)) (flow_of w.head.next place 0) w.table w.health)
-past_checks_settles w (try_lock_lem script place held c) n k =
-    more attempt_begun tt (loosen (given_over w.head.boot _) (lock_hands (acting w (try_lock_lem script place held c)) w.head.buckets (flow_of w.head.next place 0) w.table w.health c).settles)
+past_checks_settles w (try_lock script place held c) n k =
+    more attempt_begun tt (loosen (given_over w.head.boot _) (lock_hands (acting w (try_lock script place held c)) w.head.buckets (flow_of w.head.next place 0) w.table w.health c).settles)
 past_checks_settles w (transactional registry script place held binding bucket) n k =
     let e = acting w (transactional registry script place held binding bucket) in
     loosen (given_over w.head.boot _) (attempt_hands e w.head.buckets registry binding bucket (starting w.head place) w.table w.health).settles
 past_checks_settles w (acquire_bucket registry script place held binding bucket) n k =
     let e = acting w (acquire_bucket registry script place held binding bucket) in
     loosen (given_settled w.head.boot _) (retry_hands e attempt_limit 0 none_yet w.head.buckets registry binding bucket (starting w.head place) w.table w.health).settles
-past_checks_settles w (release_all_lem script place leases) n k =
-    (give_back_hands (acting w (release_all_lem script place leases)) (lease_count leases) (holds_of leases) (starting w.head place) w.table w.health
+past_checks_settles w (release_all script place leases) n k =
+    (give_back_hands (acting w (release_all script place leases)) (lease_count leases) (holds_of leases) (starting w.head place) w.table w.health
     (omega (arith, words_leases leases))).settles
 past_checks_settles w (acquire_locks registry script place held keys grants) n k =
     let e = acting w (acquire_locks registry script place held keys grants) in
@@ -118,7 +119,7 @@ past_checks_settles w (acquire_sorted registry script place held keys grants) n 
     loosen (inner_handed w registry script place held keys grants)
     (locks_hands e (length (cells_sorted w.head.buckets registry keys)) 0 w.head.buckets w.head.boot registry (sorted_keys w.head.buckets registry keys) [] (starting w.head place) w.table w.health grants).settles)
 past_checks_settles w (crew counts cells turns) n k = absurd (n tt)
-past_checks_settles w (crew_at_work_lem counts cells turns counters) n k = absurd (n tt)
+past_checks_settles w (crew_at_work counts cells turns counters) n k = absurd (n tt)
 
 call_settles : (w : World) (k : Call) → (IsCrew k → ⊥) → Settles (Gives (perform w k)) (log_of w k)
 call_settles w k n = performed (λ m. Settles (Gives m) m.log) w k (λ r. none) (past_checks_settles w k n)
@@ -168,7 +169,7 @@ locks_buffer (suc left) p e buckets boot registry keys taken r t g grants n =
     go (outcome.Refused z) s u y on = λ _. refl
 
 past_checks_buffer : (w : World) (k : Call) → ((past_checks w k).seen.1.answer ≡ AllGranted → ⊥) → (past_checks w k).seen.1.grants ≡ buffer k
-past_checks_buffer w (try_acquire_lem c) n = refl
+past_checks_buffer w (try_acquire c) n = refl
 past_checks_buffer w (drop_lease l) n = refl
 past_checks_buffer w (read_permission l) n = refl
 past_checks_buffer w (competing_acquire l) n = refl
@@ -177,10 +178,10 @@ past_checks_buffer w (foreign_release held l) n = refl
 past_checks_buffer w (drop_preserving held l) n = refl
 past_checks_buffer w (acquire_preserving held c) n = refl
 past_checks_buffer w (environment script place held) n = refl
-past_checks_buffer w (try_lock_lem script place held c) n = refl
+past_checks_buffer w (try_lock script place held c) n = refl
 past_checks_buffer w (transactional registry script place held binding bucket) n = refl
 past_checks_buffer w (acquire_bucket registry script place held binding bucket) n = refl
-past_checks_buffer w (release_all_lem script place leases) n = refl
+past_checks_buffer w (release_all script place leases) n = refl
 past_checks_buffer w (acquire_locks registry script place held keys grants) n =
     locks_buffer (count_in keys) 0 (acting w (acquire_locks registry script place held keys grants)) w.head.buckets w.head.boot registry keys [] (starting w.head place) w.table w.health grants n
 past_checks_buffer w (acquire_sorted registry script place held keys grants) n =
@@ -199,7 +200,7 @@ past_checks_buffer w (acquire_sorted registry script place held keys grants) n =
     kept asked sorted b (Refused r) f n = f n
     kept asked sorted b (RefusedAt r p) f n = f (λ e. let z : ◌≡◌ {A = ℕ} 0 1 = cc in omega arith)
 past_checks_buffer w (crew counts cells turns) n = refl
-past_checks_buffer w (crew_at_work_lem counts cells turns counters) n = refl
+past_checks_buffer w (crew_at_work counts cells turns counters) n = refl
 
 buffer_kept : (w : World) (k : Call) → (answers w k ≡ AllGranted → ⊥) → buffer_in (perform w k) ≡ buffer k
 buffer_kept w k = performed (λ m. (m.seen.1.answer ≡ AllGranted → ⊥) → m.seen.1.grants ≡ buffer k) w k (λ r n. refl) (λ _. past_checks_buffer w k)

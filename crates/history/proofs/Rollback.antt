@@ -1,4 +1,5 @@
 -- Giving back, last first: `release_all`, and the rollback of a multi-lock that is refused. Read off the log, in any arena.
+-- ---- in a boundary the caller does nothing
 use Prim.Native.Nat.{ℕ, zero, suc, ◌+◌, ◌-◌, ◌<◌, ◌≤◌}
 use Rattle.std.proofs.Math.Path.{◌≡◌}
 use Rattle.std.specs.Prelude.{refl, ◌&&◌, ◌⊎◌, ltb, eqb, length, take}
@@ -28,47 +29,19 @@ use Rattle.types.specs.declared.Stepped.{Stepped}
 use Rattle.choice.specs.Pick.{if_both}
 use Rattle.laws.specs.Lists.{holds_few}
 use Rattle.history.specs.World.{caller_releases}
-use Rattle.history.specs.Items.{release_all_lem, acquire_locks, key_cell, perform}
+use Rattle.history.specs.Items.{release_all, acquire_locks, key_cell, perform}
 use Rattle.history.specs.Statements.{RollbackIs, RolledBack, FallingAll}
 use Rattle.history.specs.Tests.{differ, In, in_first, in_cases, in_left, in_right, in_either, none_in}
 use Rattle.history.specs.Judged.{acting, performed}
-use Rattle.history.proofs.Steps.{With}
+use Rattle.history.specs.Steps.{With}
 use Rattle.history.proofs.Calls.{words_leases}
-use Rattle.history.proofs.Owing.{Settles, join, loosen, Nobody, Given, retry_hands, freed_at, settled_at, no_grant, no_refused}
-use Rattle.history.proofs.ByKey.{Names, retry_names}
-use Rattle.history.proofs.Handed.{TakenIn, retry_issues}
-
--- ---- in a boundary the caller does nothing
-
-abbrev pub Foreigner : Event → Type 0
-Foreigner attempt_begun = Unit {0}
-Foreigner boundary_run = Unit {0}
-Foreigner yielded = Unit {0}
-Foreigner spun = Unit {0}
-Foreigner step_dropped = Unit {0}
-Foreigner (took by_caller c s) = ⊥
-Foreigner (took by_script c s) = Unit {0}
-Foreigner (released by_caller c s) = ⊥
-Foreigner (released by_script c s) = Unit {0}
-Foreigner (waiters_set c n) = Unit {0}
-Foreigner (health_set i n) = Unit {0}
-Foreigner (held_all_lem m) = ⊥
-Foreigner (added m c v) = ⊥
-
--- the caller takes nothing
-abbrev TakesNone : Event → Type 0
-TakesNone attempt_begun = Unit {0}
-TakesNone boundary_run = Unit {0}
-TakesNone yielded = Unit {0}
-TakesNone spun = Unit {0}
-TakesNone step_dropped = Unit {0}
-TakesNone (took by_caller c s) = ⊥
-TakesNone (took by_script c s) = Unit {0}
-TakesNone (released a c s) = Unit {0}
-TakesNone (waiters_set c n) = Unit {0}
-TakesNone (health_set i n) = Unit {0}
-TakesNone (held_all_lem m) = Unit {0}
-TakesNone (added m c v) = Unit {0}
+use Rattle.history.specs.Owing.{Settles, Nobody, Given}
+use Rattle.history.proofs.Owing.{join, loosen, retry_hands, freed_at, settled_at, no_grant, no_refused}
+use Rattle.history.specs.ByKey.{Names}
+use Rattle.history.proofs.ByKey.{retry_names}
+use Rattle.history.specs.Handed.{TakenIn}
+use Rattle.history.proofs.Handed.{retry_issues}
+use Rattle.history.specs.Rollback.{Foreigner, TakesNone, TakenBy}
 
 takes_none : (e : Event) → Foreigner e → TakesNone e
 takes_none attempt_begun f = tt
@@ -173,7 +146,7 @@ falling_rollback e taken x p r t g grants =
 
 pub releases_fall : FallingAll perform
 releases_fall w script place leases =
-    let k = release_all_lem script place leases in
+    let k = release_all script place leases in
     performed (λ m. m.seen.1.answer ≡ Done → caller_releases m.log ≡ reverse (holds_of leases)) w k
     (λ r a. let z : ◌≡◌ {A = ℕ} 0 1 = cc in absurd (omega arith))
     (λ _ _.
@@ -190,11 +163,6 @@ back_takes_none (suc n) e ls r t g =
     also (released by_caller l.cell l.serial) tt
     (every_append (every_map takes_none (boundary_foreign (protecting e (take n ls)) r.flow u g))
     (back_takes_none n e ls (run_of m.0 r.attempts (r.boundaries + 1) r.yields) m.1.0 m.1.1))
-
--- ---- a multi-lock that rolled back
-
-abbrev TakenBy : Hold → List Event → Type 0
-TakenBy l es = (m n : List Event) × (es ≡ m ++ (took by_caller l.cell l.serial ∷ n))
 
 by_left : (l : Hold) (xs ys : List Event) → TakenBy l xs → TakenBy l (xs ++ ys)
 by_left l xs ys t = (t.0, t.1 ++ ys, ap (λ (z : List Event). z ++ ys) t.2 ∙ append_assoc t.0 _ ys)

@@ -1,5 +1,6 @@
 -- The sorted call, key by key: the place of a key's cell in the sorted list, and the lease that the key is handed back. Document 02, L4: "hand back
 -- one lease per key in the caller's order, doubled keys sharing one."
+-- ---- a strictly rising list, by its places
 use Rattle.std.specs.Prelude.{ℕ, zero, suc, ◌+◌, ◌*◌, ◌≤◌, ◌<◌, ◌≡◌, refl, List, [], ◌∷◌, Bool, true, false, eqb, length, get_or, if◌then◌else◌}
 use Rattle.std.proofs.Common.{sym, ap, ◌∙◌, subst, arith}
 use Rattle.std.proofs.Math.Decide.{dec_lt}
@@ -22,8 +23,7 @@ use Rattle.history.specs.Statements.{HandsOver, BufferIs}
 use Rattle.history.specs.Tests.{In, in_take, in_index, words_boot}
 use Rattle.history.specs.Judged.{judged_at, sorted_locks, performed}
 use Rattle.history.proofs.ByKey.{locks_filled}
-
--- ---- a strictly rising list, by its places
+use Rattle.history.specs.Shared.{cells_in, Whole}
 
 rising_low : (low : ℕ) (xs : List ℕ) → Rising low xs → (j : ℕ) → j < length xs → low ≤ get_or xs j 0
 rising_low low [] r j k = absurd (omega arith)
@@ -142,12 +142,6 @@ module _ (buckets : ℕ) (registry keys : List ℕ) where
 
   pub sorted_place_of : (i : ℕ) → i < length sorted_cells → sorted_place (first_place i) ≡ i
   sorted_place_of i l = ap (first_asking sorted_cells) (first_place_at i l).1 ∙ rising_place sorted_cells sorted_rises i l
-
--- ---- the lease of a cell
-
-abbrev cells_in : List Hold → List ℕ
-cells_in [] = []
-cells_in (l ∷ ls) = l.cell ∷ cells_in ls
 
 -- the lease on a cell stands at the first place that has the cell
 on_place : (ls : List Hold) (c : ℕ) → hold_on ls c ≡ hold_at ls (first_asking (cells_in ls) c)
@@ -308,15 +302,6 @@ module _ (w : World) (registry script : List ℕ) (place : ℕ) (held keys grant
       go (Busy why) f x = x
       go (Refused r) f x = x
       go (RefusedAt r p) f x = x
-
--- ---- the buffer of a granted multi-lock, in either order
-
-abbrev Whole : World → (registry keys : List ℕ) → Made (World × Says) → Type 0
-Whole w registry keys m =
-    m.seen.1.answer ≡ AllGranted
-    → (length m.seen.1.grants ≡ 3 * count_in keys)
-    × ((p : ℕ) → p < count_in keys → (hold_at (holds_of m.seen.1.grants) p).cell ≡ key_cell w.head.buckets registry keys p)
-    × ((p : ℕ) → p < count_in keys → (lease_in m.seen.1.grants p).boot ≡ w.head.boot)
 
 -- only a granted lock is a granted call
 pub all_inner : (asked sorted : List ℕ) (x : Answer) → asked_first x asked sorted ≡ AllGranted → x ≡ AllGranted

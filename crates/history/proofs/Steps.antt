@@ -34,11 +34,9 @@ use Rattle.laws.specs.Keys.{find_inside}
 use Rattle.history.specs.World.{World, world_of, Live}
 use Rattle.history.specs.Tests.{differ, In, in_first, in_left, in_right, is_free_state, if_cases}
 use Rattle.history.specs.Events.{Fit, lives, taken_live}
-use Rattle.history.proofs.Logs.{Kept, nothing, event, kept_fit, kept_live, kept_next, weaken, chain, ended}
-
--- the world of a head with this next serial, this table and this health
-abbrev pub world_at : Head → ℕ → List ℕ → List ℕ → World
-world_at h n t g = world_of (spent_to h n) t g
+use Rattle.history.specs.Logs.{Kept}
+use Rattle.history.proofs.Logs.{nothing, event, kept_fit, kept_live, kept_next, weaken, chain, ended}
+use Rattle.history.specs.Steps.{world_at, With, of_step, of_flow, of_locked, of_run, of_tried, of_took, Gained, Won, won, none_yet_lem, no_more, gained, was_busy, was_refused}
 
 -- a definition of the model, run from the world w, keeps what `Kept` says; `world` reads the world that it leaves in what it gives
 pub record Leads {A : Type 0} (world : A → World) (w : World) (P : Hold → Type 0) (m : Made A) : Type 0 where
@@ -53,41 +51,6 @@ pub record Gains {A : Type 0} (world : A → World) (Q : A → Type 0) (w : Worl
 pub followed : {A : Type 0} {world : A → World} {Q : A → Type 0} {w v : World} {P : Hold → Type 0} {xs : List Event} {m : Made A}
     → Fit w → Kept w P v xs → Gains world Q v P m → Gains world Q w P (record { seen = m.seen; log = xs ++ m.log })
 followed g a b = record { kept = chain g a b.kept; gain = b.gain }
-
--- what goes from step to step beside table and health
-abbrev pub With : Type 0 → Type 0
-With A = A × (List ℕ × List ℕ)
-
-abbrev pub of_step : Head → With Stepped → World
-of_step h a = world_at h a.0.next a.1.0 a.1.1
-
-abbrev pub of_flow : Head → With Flow → World
-of_flow h a = world_at h a.0.next a.1.0 a.1.1
-
-abbrev pub of_locked : Head → With Locked → World
-of_locked h a = world_at h a.0.flow.next a.1.0 a.1.1
-
-abbrev pub of_run : Head → With Run → World
-of_run h a = world_at h a.0.flow.next a.1.0 a.1.1
-
-abbrev pub of_tried : Head → With Tried → World
-of_tried h a = world_at h a.0.run.flow.next a.1.0 a.1.1
-
-abbrev pub of_took : Head → List ℕ → Took × List ℕ → World
-of_took h g a = world_at h a.0.next a.1 g
-
--- ---- what is gained: a lease that is live, whose serial was not yet issued when n was the next
-
--- of cell c; of any cell
-pub data Gained (n : ℕ) (v : World) (c : ℕ) : Outcome → Type 0 where
-  gained : (s : ℕ) → Live v (hold_of c s) → n ≤ s → Gained n v c (outcome.Granted (hold_of c s))
-  was_busy : {why : Reason} → Gained n v c (outcome.Busy why)
-  was_refused : (r : Refusal) → Gained n v c (outcome.Refused r)
-
-pub data Won (n : ℕ) (v : World) : Outcome → Type 0 where
-  won : (l : Hold) → Live v l → n ≤ l.serial → Won n v (outcome.Granted l)
-  none_yet_lem : {why : Reason} → Won n v (outcome.Busy why)
-  no_more : (r : Refusal) → Won n v (outcome.Refused r)
 
 pub won_of : {n : ℕ} {v : World} {c : ℕ} {o : Outcome} → Gained n v c o → Won n v o
 won_of {c = c} (gained s x l) = won (hold_of c s) x l

@@ -28,12 +28,14 @@ use Rattle.types.specs.declared.State.TheVariants as state
 use Rattle.types.specs.declared.Took.{Took}
 use Rattle.laws.specs.Words.{waiters_set_cell}
 use Rattle.history.specs.World.{World, caller_releases}
-use Rattle.history.specs.Items.{Call, try_acquire_lem, drop_lease, read_permission, competing_acquire, release_then_handoff, foreign_release, drop_preserving, acquire_preserving, environment, try_lock_lem, transactional, acquire_bucket, release_all_lem, acquire_locks, acquire_sorted, crew, crew_at_work_lem, cell_of, asked, perform, Says}
-use Rattle.history.specs.Statements.{answer_in_lem, world_in}
-use Rattle.history.proofs.Steps.{With}
-use Rattle.history.proofs.Rollback.{Foreigner, Every, end, also, every_append, boundary_foreign, still_then}
+use Rattle.history.specs.Items.{Call, try_acquire, drop_lease, read_permission, competing_acquire, release_then_handoff, foreign_release, drop_preserving, acquire_preserving, environment, try_lock, transactional, acquire_bucket, release_all, acquire_locks, acquire_sorted, crew, crew_at_work, cell_of, asked, perform, Says}
+use Rattle.history.specs.Statements.{answer_in, world_in}
+use Rattle.history.specs.Steps.{With}
+use Rattle.history.specs.Rollback.{Foreigner}
+use Rattle.history.proofs.Rollback.{Every, end, also, every_append, boundary_foreign, still_then}
 use Rattle.history.specs.Judged.{acting, performed}
-use Rattle.history.proofs.ByKey.{FoundAt, found_own}
+use Rattle.history.specs.ByKey.{FoundAt}
+use Rattle.history.proofs.ByKey.{found_own}
 use Rattle.history.specs.Reasons.{boundaries_in, LocksOnce}
 
 -- ---- how an attempt on cell c ends, by what it answers, its boundaries and its log, the next serial and the runs that it leaves
@@ -115,7 +117,7 @@ module _ (e : Setting) (buckets boot c : ℕ) where
 -- ---- of a call that makes one attempt
 
 abbrev SeenBy : World → ℕ → Made (World × Says) → Type 0
-SeenBy w c m = Looks w.head.buckets c (answer_in_lem m) (boundaries_in m) m.log (world_in m).head.next (world_in m).table (world_in m).health
+SeenBy w c m = Looks w.head.buckets c (answer_in m) (boundaries_in m) m.log (world_in m).head.next (world_in m).table (world_in m).health
 
 attempt_looks : (e : Setting) (buckets boot : ℕ) (registry : List ℕ) (binding bucket : ℕ) (r : Run) (t g : List ℕ) → r.boundaries ≡ 0
     → let m = attempt_of e buckets registry binding bucket r t g in
@@ -133,15 +135,15 @@ attempt_looks e buckets boot registry binding bucket r t g z =
         rw (z, zero-add m.seen.0.boundaries, append-nil m.log, ← h) (lock_looks e buckets boot d r.flow t g)
 
 pub call_looks : (w : World) (k : Call) → LocksOnce k → SeenBy w (asked w k) (perform w k)
-call_looks w (try_lock_lem script place held c) o =
-    let k = try_lock_lem script place held c in
+call_looks w (try_lock script place held c) o =
+    let k = try_lock script place held c in
     performed (SeenBy w c) w k (λ r. unlooked r refl refl end)
     (λ fine. behind _ (also attempt_begun tt end) (lock_looks (acting w k) w.head.buckets w.head.boot c (flow_of w.head.next place 0) w.table w.health))
 call_looks w (transactional registry script place held binding bucket) o =
     let k = transactional registry script place held binding bucket in
     performed (SeenBy w (asked w k)) w k (λ r. unlooked r refl refl end)
     (λ fine. attempt_looks (acting w k) w.head.buckets w.head.boot registry binding bucket (starting w.head place) w.table w.health refl)
-call_looks w (try_acquire_lem c) o = absurd o
+call_looks w (try_acquire c) o = absurd o
 call_looks w (drop_lease l) o = absurd o
 call_looks w (read_permission l) o = absurd o
 call_looks w (competing_acquire l) o = absurd o
@@ -151,8 +153,8 @@ call_looks w (drop_preserving held l) o = absurd o
 call_looks w (acquire_preserving held c) o = absurd o
 call_looks w (environment script place held) o = absurd o
 call_looks w (acquire_bucket registry script place held binding bucket) o = absurd o
-call_looks w (release_all_lem script place leases) o = absurd o
+call_looks w (release_all script place leases) o = absurd o
 call_looks w (acquire_locks registry script place held keys grants) o = absurd o
 call_looks w (acquire_sorted registry script place held keys grants) o = absurd o
 call_looks w (crew counts cells turns) o = absurd o
-call_looks w (crew_at_work_lem counts cells turns counters) o = absurd o
+call_looks w (crew_at_work counts cells turns counters) o = absurd o

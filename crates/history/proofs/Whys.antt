@@ -1,4 +1,5 @@
 -- The reasons, read off the table of `Why`; a holder lives, a late serial is spent.
+-- ---- the last event of a log
 use Rattle.std.specs.Prelude.{ℕ, ◌*◌, ◌≤◌, ◌<◌, ◌≡◌, refl, List, [], ◌∷◌, ◌++◌, Bool, true, false, ltb, get_or}
 use Rattle.std.proofs.Common.{sym, ap, ◌∙◌, subst, append_assoc, inl, inr, arith, ltb-true, ltb-false}
 use Rattle.std.proofs.Math.ListN.{get_or-eq_default}
@@ -16,20 +17,20 @@ use Rattle.types.specs.declared.State.{State}
 use Rattle.types.specs.declared.State.TheVariants as state
 use Rattle.laws.specs.Words.{waiters_set_cell}
 use Rattle.history.specs.World.{World, cells, Live, after_event, now, Lawful, Spent, number_of_lem, boundaries, caller_releases}
-use Rattle.history.specs.Items.{Call, try_acquire_lem, drop_lease, read_permission, competing_acquire, release_then_handoff, foreign_release, drop_preserving, acquire_preserving, environment, try_lock_lem, transactional, acquire_bucket, release_all_lem, acquire_locks, acquire_sorted, crew, crew_at_work_lem, IsCrew, asked, perform}
-use Rattle.history.specs.Statements.{answer_in_lem, leaves, log_of}
+use Rattle.history.specs.Items.{Call, try_acquire, drop_lease, read_permission, competing_acquire, release_then_handoff, foreign_release, drop_preserving, acquire_preserving, environment, try_lock, transactional, acquire_bucket, release_all, acquire_locks, acquire_sorted, crew, crew_at_work, IsCrew, asked, perform}
+use Rattle.history.specs.Statements.{answer_in, leaves, log_of}
 use Rattle.history.specs.Events.{Good, Fit, good, fit, good_after, lives, live_before, new_owner}
 use Rattle.history.proofs.Logs.{now_append, lawful_split, good_now, arena_now, live_back, kept_fit}
 use Rattle.history.proofs.Calls.{call_kept, call_fit}
 use Rattle.history.specs.CountedCalls.{calls_counted}
 use Rattle.history.specs.Judged.{performed}
 use Rattle.history.proofs.Returns.{not_empty, released_dead}
-use Rattle.history.proofs.Rollback.{Foreigner, Every, every_at}
+use Rattle.history.specs.Rollback.{Foreigner}
+use Rattle.history.proofs.Rollback.{Every, every_at}
 use Rattle.history.specs.Tests.{Stands, is_free_lem, is_held_lem, is_damaged, stands, alive, live, state_held}
 use Rattle.history.specs.Reasons.{boundaries_in, LocksOnce, TakesNothing, ReasonsAre, EarlyTakesNothing, HolderLives, LateIsSpent, OwnSerial}
 use Rattle.history.proofs.Why.{Looks, unlooked, waited, holder, stopped, granted, late, poisoned, call_looks}
-
--- ---- the last event of a log
+use Rattle.history.specs.Whys.{GaveUp}
 
 -- two logs with a last event each
 same_end : (xs ys : List Event) (a b : Event) → xs ++ (a ∷ []) ≡ ys ++ (b ∷ []) → (xs ≡ ys) × (a ≡ b)
@@ -63,14 +64,6 @@ ends_released (added m d v ∷ xs) c s e = ends_released xs c s e
 -- where the caller does nothing, it releases nothing last
 not_foreign : {log : List Event} (xs : List Event) (c s : ℕ) → Every Foreigner log → log ≡ xs ++ (released by_caller c s ∷ []) → ⊥
 not_foreign xs c s f e = every_at (released by_caller c s) xs [] (subst (Every Foreigner) e f)
-
--- ---- each reason, both ways, of an attempt that looked
-
--- taken and, last, released; the header was healthy and somebody waited
-abbrev GaveUp : (buckets c : ℕ) (log : List Event) (t g : List ℕ) → ℕ → Type 0
-GaveUp buckets c log t g s =
-    (x : List Event) × (y : List Event) × (log ≡ (x ++ (took by_caller c s ∷ y)) ++ (released by_caller c s ∷ []))
-    × (get_or g (header_of buckets c) 0 ≡ 0) × (waiters_at t c ≡ 0 → ⊥)
 
 module _ {buckets c : ℕ} {a : Answer} {b : ℕ} {log : List Event} {next : ℕ} {t g : List ℕ} where
   before_says : Looks buckets c a b log next t g → a ≡ Busy Before → (b ≡ 1) × (waiters_at t c ≡ 0 → ⊥)
@@ -202,7 +195,7 @@ early_takes_nothing w k o = let l = call_looks w k o in (λ q. takes_nothing (be
 
 -- a call that locks once is no crew
 not_crew : (k : Call) → LocksOnce k → IsCrew k → ⊥
-not_crew (try_acquire_lem c) o = absurd o
+not_crew (try_acquire c) o = absurd o
 not_crew (drop_lease l) o = absurd o
 not_crew (read_permission l) o = absurd o
 not_crew (competing_acquire l) o = absurd o
@@ -211,14 +204,14 @@ not_crew (foreign_release ls l) o = absurd o
 not_crew (drop_preserving ls l) o = absurd o
 not_crew (acquire_preserving ls c) o = absurd o
 not_crew (environment script place ls) o = absurd o
-not_crew (try_lock_lem script place ls c) o = λ x. x
+not_crew (try_lock script place ls c) o = λ x. x
 not_crew (transactional registry script place ls binding bucket) o = λ x. x
 not_crew (acquire_bucket registry script place ls binding bucket) o = absurd o
-not_crew (release_all_lem script place ls) o = absurd o
+not_crew (release_all script place ls) o = absurd o
 not_crew (acquire_locks registry script place ls keys grants) o = absurd o
 not_crew (acquire_sorted registry script place ls keys grants) o = absurd o
 not_crew (crew counts lists turns) o = absurd o
-not_crew (crew_at_work_lem counts lists turns counters) o = absurd o
+not_crew (crew_at_work counts lists turns counters) o = absurd o
 
 -- a lock that looked is no refused call: its log is not empty, so the shape fits
 looked_fit : (w : World) (k : Call) → LocksOnce k → (boundaries_in (perform w k) ≡ 0 → ⊥) → Fit w
@@ -291,7 +284,7 @@ late_is_spent w k s o whole q =
 pub own_serial : OwnSerial perform
 unfolding lease_rules acquire_of take_of state_at
 own_serial w l why =
-    performed (λ m. answer_in_lem m ≡ Busy why → why ≡ Held l.serial) w (competing_acquire l)
+    performed (λ m. answer_in m ≡ Busy why → why ≡ Held l.serial) w (competing_acquire l)
     (λ r q. let z : ◌≡◌ {A = ℕ} 0 1 = cc in absurd (omega arith))
     (λ fine. met (not-false (is_live w.head.next (cells w) w.table (hold_in l)) fine.1.1.0))
   where

@@ -1,4 +1,5 @@
 -- Two writers: a cell that an answer handed over is taken again only behind a release of that lease.
+-- ---- one log: between a live lease and the next take of its cell stands a release of it
 use Rattle.std.specs.Prelude.{ℕ, zero, suc, ◌+◌, ◌<◌, ◌≡◌, refl, List, [], ◌∷◌, ◌++◌, ◌⊎◌, length}
 use Rattle.std.proofs.Common.{sym, ap, ◌∙◌, subst, append_assoc, inl, inr, arith}
 use Rattle.std.proofs.Math.Decide.{ℕ_discrete}
@@ -23,7 +24,7 @@ use Rattle.types.specs.declared.SalvageAnswer.{SalvageAnswer}
 use Rattle.types.specs.declared.SalvageAnswer.TheVariants as salvaged
 use Rattle.laws.specs.Prepared.{Outcome as Prepared, Came, was_done, was_refused, came}
 use Rattle.history.specs.World.{World, Live, after_event, now, Lawful, Releases, Unreleased, world_of}
-use Rattle.history.specs.Items.{Call, Says, ByKeys, in_order, any_order, try_acquire_lem, drop_lease, read_permission, competing_acquire, release_then_handoff, foreign_release, drop_preserving, acquire_preserving, environment, try_lock_lem, transactional, acquire_bucket, release_all_lem, acquire_locks, acquire_sorted, crew, crew_at_work_lem, perform, Item, call, foreign_step, preparation, prepared_by, preparing, next_item, run, cold, asked, Entry, entry_of, events_of, Course, key_cell, preparation_over, salvage, salvage_over, salvaged_by, salvaging}
+use Rattle.history.specs.Items.{Call, Says, ByKeys, in_order, any_order, try_acquire, drop_lease, read_permission, competing_acquire, release_then_handoff, foreign_release, drop_preserving, acquire_preserving, environment, try_lock, transactional, acquire_bucket, release_all, acquire_locks, acquire_sorted, crew, crew_at_work, perform, Item, call, foreign_step, preparation, prepared_by, preparing, next_item, run, cold, asked, Entry, entry_of, events_of, Course, key_cell, preparation_over, salvage, salvage_over, salvaged_by, salvaging}
 use Rattle.history.specs.Statements.{HandsOver, answers, log_of, Gives, Through, buffer_in}
 use Rattle.history.specs.Answers.{AsksOne, BusyOrRefused, LocksRefused, NeverTwice, NoneTakes, NotOverLive, OnceEach, TakesParted, TwoWriters, Hands, AloneUntilReleased}
 use Rattle.history.specs.Tests.{free_words, holds_equal, In, in_take}
@@ -35,10 +36,10 @@ use Rattle.history.proofs.Courses.{Stretch, run_stretch, events_append, begun, n
 use Rattle.history.proofs.Returns.{not_empty}
 use Rattle.history.proofs.ByKey.{grants_name}
 use Rattle.history.proofs.Shared.{buffers_name}
-use Rattle.history.proofs.Handed.{TakenIn, taken_between}
+use Rattle.history.specs.Handed.{TakenIn}
+use Rattle.history.proofs.Handed.{taken_between}
 use Rattle.history.proofs.HandedCalls.{call_came}
-
--- ---- one log: between a live lease and the next take of its cell stands a release of it
+use Rattle.history.specs.Writers.{Honest, Fair, At, One, AllOrRefused}
 
 -- an event releases this lease, or not
 pub looked : (l : Hold) (e : Event) → (Releases l e → ⊥) ⊎ ((a : Actor) × (e ≡ released a l.cell l.serial))
@@ -72,16 +73,6 @@ parted w c s s' b (e ∷ es) after g v k =
     go : (Releases (hold_of c s) e → ⊥) ⊎ ((a : Actor) × (e ≡ released a c s)) → ((Releases (hold_of c s) e → ⊥) → Out es) → Out (e ∷ es)
     go (inr r) on = (r.0, [], es, ap (λ (x : Event). x ∷ es) r.1)
     go (inl n) on = let r = on n in (r.0, e ∷ r.1, r.2, ap (λ (x : List Event). e ∷ x) r.3)
-
--- ---- what a course keeps
-
--- from the world w on, each entry took what it hands over, and left it live
-abbrev pub Honest : World → Entry → Type 0
-Honest w e = (l : Hold) → Hands e l → TakenIn w.head.next l e.events × Live (now w e.events) l
-
-abbrev pub Fair : World → List Entry → Type 0
-Fair w [] = Unit {0}
-Fair w (e ∷ es) = Honest w e × Fair (now w e.events) es
 
 fair_append : (w : World) (xs ys : List Entry) → Fair w xs → Fair (now w (events_of xs)) ys → Fair w (xs ++ ys)
 fair_append w [] ys p q = q
@@ -162,15 +153,6 @@ unfolding run
 through rubbish start items d =
     let first = next_item (cold rubbish) start in
     run_kept first items (record { stretch = begun (cold rubbish) start d; fair = subst (Fair first.origin) (sym (nothing_yet (cold rubbish) start d)) tt })
-
--- ---- at an entry
-
--- the world before an entry, and the entries behind it
-record At (w : World) (i : Entry) (z : List Entry) : Type 0 where
-  honest : Honest w i
-  fits : Fit (now w i.events)
-  lawful : Lawful (now w i.events) (events_of z)
-  fair : Fair (now w i.events) z
 
 at : (d : Course) (x z : List Entry) (i : Entry) → KeptWell d → d.entries ≡ x ++ (i ∷ z) → At (now d.origin (events_of x)) i z
 at d x z i s e =
@@ -279,16 +261,6 @@ none_handed w k c s s' v u x =
     let r = not_over_live w k c s s' v x in
     was_released c s r.0 r.1 _ (subst (Unreleased (hold_of c s)) r.4 u)
 
--- what such a call answers
-abbrev One : Answer → Type 0
-One Done = ⊥
-One (Cell c) = ⊥
-One (Granted l) = Unit {0}
-One AllGranted = ⊥
-One (Busy why) = Unit {0}
-One (Refused r) = Unit {0}
-One (RefusedAt r p) = ⊥
-
 one_of : (boot : ℕ) (o : Outcome) → One (answer_of boot o)
 one_of boot (outcome.Granted l) = tt
 one_of boot (outcome.Busy why) = tt
@@ -304,7 +276,7 @@ unfolding acquire_of
 acquire_one n h t c = one_of h.boot (outcome_of c (take_of h.next t c).seen.0.answer)
 
 past_checks_one : (w : World) (k : Call) → AsksOne k → One (past_checks w k).seen.1.answer
-past_checks_one w (try_acquire_lem c) a = acquire_one 1 w.head w.table c
+past_checks_one w (try_acquire c) a = acquire_one 1 w.head w.table c
 past_checks_one w (drop_lease l) a = absurd a
 past_checks_one w (read_permission l) a = absurd a
 past_checks_one w (competing_acquire l) a = acquire_one 1 w.head w.table l.cell
@@ -315,19 +287,19 @@ past_checks_one w (foreign_release held l) a =
 past_checks_one w (drop_preserving held l) a = absurd a
 past_checks_one w (acquire_preserving held c) a = acquire_one 1 w.head w.table c
 past_checks_one w (environment script place held) a = absurd a
-past_checks_one w (try_lock_lem script place held c) a =
-    one_of w.head.boot (lock_of (acting w (try_lock_lem script place held c)) w.head.buckets (flow_of w.head.next place 0) w.table w.health c).seen.0.answer
+past_checks_one w (try_lock script place held c) a =
+    one_of w.head.boot (lock_of (acting w (try_lock script place held c)) w.head.buckets (flow_of w.head.next place 0) w.table w.health c).seen.0.answer
 past_checks_one w (transactional registry script place held binding bucket) a =
     let e = acting w (transactional registry script place held binding bucket) in
     one_of w.head.boot (attempt_of e w.head.buckets registry binding bucket (starting w.head place) w.table w.health).seen.0.outcome
 past_checks_one w (acquire_bucket registry script place held binding bucket) a =
     let e = acting w (acquire_bucket registry script place held binding bucket) in
     one_settled w.head.boot (retry_of attempt_limit 0 none_yet e w.head.buckets registry binding bucket (starting w.head place) w.table w.health).seen.0.outcome
-past_checks_one w (release_all_lem script place leases) a = absurd a
+past_checks_one w (release_all script place leases) a = absurd a
 past_checks_one w (acquire_locks registry script place held keys grants) a = absurd a
 past_checks_one w (acquire_sorted registry script place held keys grants) a = absurd a
 past_checks_one w (crew counts cells turns) a = absurd a
-past_checks_one w (crew_at_work_lem counts cells turns counters) a = absurd a
+past_checks_one w (crew_at_work counts cells turns counters) a = absurd a
 
 pub busy_or_refused : BusyOrRefused perform
 busy_or_refused w k s a v u = go (answers w k) refl (performed (λ m. One m.seen.1.answer) w k (λ r. tt) (λ _. past_checks_one w k a))
@@ -343,16 +315,6 @@ busy_or_refused w k s a v u = go (answers w k) refl (performed (λ m. One m.seen
     go (Busy why) e o = inl (why, e)
     go (Refused r) e o = inr (r, e)
     go (RefusedAt r p) e o = absurd o
-
--- multi-lock grants all, or is refused
-abbrev AllOrRefused : Answer → Type 0
-AllOrRefused Done = ⊥
-AllOrRefused (Cell c) = ⊥
-AllOrRefused (Granted l) = ⊥
-AllOrRefused AllGranted = Unit {0}
-AllOrRefused (Busy why) = ⊥
-AllOrRefused (Refused r) = Unit {0}
-AllOrRefused (RefusedAt r p) = Unit {0}
 
 locks_answer : (left p : ℕ) (e : Setting) (buckets boot : ℕ) (registry keys : List ℕ) (taken : List Hold) (r : Run) (t g grants : List ℕ)
     → AllOrRefused (locks_of left p e buckets boot registry keys taken r t g grants).seen.0.answer

@@ -13,8 +13,8 @@ use Rattle.types.specs.declared.Lease.{Lease}
 use Rattle.types.specs.declared.Reason.{Reason}
 use Rattle.types.specs.declared.Refusal.{Refusal}
 use Rattle.history.specs.World.{World, Live, Healthy, now, Unreleased, number_of_lem, attempts, takes}
-use Rattle.history.specs.Items.{Call, try_acquire_lem, drop_lease, read_permission, competing_acquire, release_then_handoff, foreign_release, drop_preserving, acquire_preserving, environment, try_lock_lem, transactional, acquire_bucket, release_all_lem, acquire_locks, acquire_sorted, crew, crew_at_work_lem, IsCrew, ByKeys, asked, key_cell, Build, Entry, events_of, history_of}
-use Rattle.history.specs.Statements.{Through, answer_in_lem, buffer_in, world_in, HandsOver, Gives, NothingHeld}
+use Rattle.history.specs.Items.{Call, try_acquire, drop_lease, read_permission, competing_acquire, release_then_handoff, foreign_release, drop_preserving, acquire_preserving, environment, try_lock, transactional, acquire_bucket, release_all, acquire_locks, acquire_sorted, crew, crew_at_work, IsCrew, ByKeys, asked, key_cell, Build, Entry, events_of, history_of}
+use Rattle.history.specs.Statements.{Through, answer_in, buffer_in, world_in, HandsOver, Gives, NothingHeld}
 
 -- ---- one call, whatever the arena holds
 
@@ -31,7 +31,7 @@ abbrev pub SerialsRise : Build → Type 0
 SerialsRise f =
     (w : World) (registry script : List ℕ) (place : ℕ) (held keys grants : List ℕ) (i j : ℕ)
     → let m = f w (acquire_locks registry script place held keys grants) in
-    answer_in_lem m ≡ AllGranted
+    answer_in m ≡ AllGranted
     → let ls = holds_of (buffer_in m) in i < j → j < length ls → (hold_at ls i).serial < (hold_at ls j).serial
 
 -- while (c, s) is live, no answer hands over a lease on c unless the call's own log releases (c, s) first
@@ -43,7 +43,7 @@ NotOverLive f =
 
 -- the calls that ask for one cell
 abbrev pub AsksOne : Call → Type 0
-AsksOne (try_acquire_lem c) = Unit {0}
+AsksOne (try_acquire c) = Unit {0}
 AsksOne (drop_lease l) = ⊥
 AsksOne (read_permission l) = ⊥
 AsksOne (competing_acquire l) = Unit {0}
@@ -52,14 +52,14 @@ AsksOne (foreign_release held l) = Unit {0}
 AsksOne (drop_preserving held l) = ⊥
 AsksOne (acquire_preserving held c) = Unit {0}
 AsksOne (environment script place held) = ⊥
-AsksOne (try_lock_lem script place held c) = Unit {0}
+AsksOne (try_lock script place held c) = Unit {0}
 AsksOne (transactional registry script place held binding bucket) = Unit {0}
 AsksOne (acquire_bucket registry script place held binding bucket) = Unit {0}
-AsksOne (release_all_lem script place leases) = ⊥
+AsksOne (release_all script place leases) = ⊥
 AsksOne (acquire_locks registry script place held keys grants) = ⊥
 AsksOne (acquire_sorted registry script place held keys grants) = ⊥
 AsksOne (crew counts cells turns) = ⊥
-AsksOne (crew_at_work_lem counts cells turns counters) = ⊥
+AsksOne (crew_at_work counts cells turns counters) = ⊥
 
 -- every attempt to take c in that stretch: such a call of a cell that a live lease holds, in whose log that lease is not released, is Busy
 -- or refused
@@ -68,7 +68,7 @@ BusyOrRefused f =
     (w : World) (k : Call) (s : ℕ) → AsksOne k
     → let l = hold_of (asked w k) s in
     Live w l → Unreleased l (f w k).log
-    → ((why : Reason) × (answer_in_lem (f w k) ≡ Busy why)) ⊎ ((r : Refusal) × (answer_in_lem (f w k) ≡ Refused r))
+    → ((why : Reason) × (answer_in (f w k) ≡ Busy why)) ⊎ ((r : Refusal) × (answer_in (f w k) ≡ Refused r))
 
 -- and a multi-lock with a key of that cell is refused, in either order
 abbrev pub LocksRefused : Build → Type 0
@@ -77,14 +77,14 @@ LocksRefused f =
     → let m = f w k in
     let l = hold_of (key_cell w.head.buckets registry keys p) s in
     Live w l → Unreleased l m.log
-    → ((r : Refusal) × (answer_in_lem m ≡ Refused r)) ⊎ ((r : Refusal) × (q : ℕ) × (answer_in_lem m ≡ RefusedAt r q))
+    → ((r : Refusal) × (answer_in m ≡ Refused r)) ⊎ ((r : Refusal) × (q : ℕ) × (answer_in m ≡ RefusedAt r q))
 
 -- ---- document 02, L3: "Read it again after the third boundary, before the waiters. If poisoned, release the lease and
 -- refuse with 7; the serial stays spent."
 
 -- the calls that read health after the lock, and grant one lease
 abbrev pub ReadsAgain : Call → Type 0
-ReadsAgain (try_acquire_lem c) = ⊥
+ReadsAgain (try_acquire c) = ⊥
 ReadsAgain (drop_lease l) = ⊥
 ReadsAgain (read_permission l) = ⊥
 ReadsAgain (competing_acquire l) = ⊥
@@ -93,18 +93,18 @@ ReadsAgain (foreign_release held l) = ⊥
 ReadsAgain (drop_preserving held l) = ⊥
 ReadsAgain (acquire_preserving held c) = ⊥
 ReadsAgain (environment script place held) = ⊥
-ReadsAgain (try_lock_lem script place held c) = Unit {0}
+ReadsAgain (try_lock script place held c) = Unit {0}
 ReadsAgain (transactional registry script place held binding bucket) = Unit {0}
 ReadsAgain (acquire_bucket registry script place held binding bucket) = Unit {0}
-ReadsAgain (release_all_lem script place leases) = ⊥
+ReadsAgain (release_all script place leases) = ⊥
 ReadsAgain (acquire_locks registry script place held keys grants) = ⊥
 ReadsAgain (acquire_sorted registry script place held keys grants) = ⊥
 ReadsAgain (crew counts cells turns) = ⊥
-ReadsAgain (crew_at_work_lem counts cells turns counters) = ⊥
+ReadsAgain (crew_at_work counts cells turns counters) = ⊥
 
 -- a lease that such a call grants is on a header that is healthy in the health that the call leaves
 abbrev pub GrantedHealthy : Build → Type 0
-GrantedHealthy f = (w : World) (k : Call) (l : Lease) → ReadsAgain k → answer_in_lem (f w k) ≡ Granted l → Healthy (world_in (f w k)) l.cell
+GrantedHealthy f = (w : World) (k : Call) (l : Lease) → ReadsAgain k → answer_in (f w k) ≡ Granted l → Healthy (world_in (f w k)) l.cell
 
 -- the point of a multi-lock's log at which a key's lease is granted: it was taken before, no attempt has begun since, and
 -- there the log ends or the next key's first attempt begins
@@ -123,7 +123,7 @@ LocksHealthy f =
     (w : World) (registry script : List ℕ) (place : ℕ) (held keys grants : List ℕ) (p : ℕ)
     → let m = f w (acquire_locks registry script place held keys grants) in
     let l = hold_at (holds_of (buffer_in m)) p in
-    answer_in_lem m ≡ AllGranted → p < count_in keys
+    answer_in m ≡ AllGranted → p < count_in keys
     → ((before after : List Event) × (m.log ≡ before ++ after) × GrantPoint l before after × Healthy (now w before) l.cell)
     × (p + 1 ≡ count_in keys → Healthy (world_in m) l.cell)
 
@@ -131,7 +131,7 @@ LocksHealthy f =
 -- answers 7
 abbrev pub PoisonedHoldsNothing : Build → Type 0
 PoisonedHoldsNothing f =
-    (w : World) (k : Call) → (IsCrew k → ⊥) → refusal_in (answer_in_lem (f w k)) ≡ 7
+    (w : World) (k : Call) → (IsCrew k → ⊥) → refusal_in (answer_in (f w k)) ≡ 7
     → NothingHeld k (f w k) × ((world_in (f w k)).head.next ≡ w.head.next + number_of_lem takes (f w k).log)
 
 -- ---- a history, with what each item said

@@ -11,7 +11,7 @@ use Rattle.model.specs.Sorted.{cells_sorted, sorted_keys, first_key}
 use Rattle.types.specs.declared.Counts.{Counts}
 use Rattle.types.specs.declared.Head.{Head}
 use Rattle.history.specs.World.{World, number_of_lem, attempts, boundaries, yields, drops}
-use Rattle.history.specs.Items.{Call, Says, try_acquire_lem, drop_lease, read_permission, competing_acquire, release_then_handoff, foreign_release, drop_preserving, acquire_preserving, environment, try_lock_lem, transactional, acquire_bucket, release_all_lem, acquire_locks, acquire_sorted, crew, crew_at_work_lem, IsCrew, perform}
+use Rattle.history.specs.Items.{Call, Says, try_acquire, drop_lease, read_permission, competing_acquire, release_then_handoff, foreign_release, drop_preserving, acquire_preserving, environment, try_lock, transactional, acquire_bucket, release_all, acquire_locks, acquire_sorted, crew, crew_at_work, IsCrew, perform}
 use Rattle.history.specs.Statements.{CountsAre}
 use Rattle.history.specs.Judged.{judged_at, acting, past_checks, performed}
 use Rattle.history.specs.Counted.{Counted, then_counted, none_counted, boundary_counted, take_counted, lock_counted, attempt_counted, retry_counted, back_counted, locks_counted}
@@ -31,7 +31,7 @@ release_counted p c s = omega arith
 
 past_checks_counted : (w : World) (k : Call) → (IsCrew k → ⊥) → Counted nothing (past_checks w k).seen.1.counts (past_checks w k).log
 unfolding acquire_of number_of_lem
-past_checks_counted w (try_acquire_lem c) _ = acquire_counted 0 1 w.head w.table c refl
+past_checks_counted w (try_acquire c) _ = acquire_counted 0 1 w.head w.table c refl
 past_checks_counted w (drop_lease l) _ = release_counted nothing l.cell l.serial
 past_checks_counted w (read_permission l) _ = none_counted nothing
 past_checks_counted w (competing_acquire l) _ = acquire_counted 0 1 w.head w.table l.cell refl
@@ -45,8 +45,8 @@ past_checks_counted w (drop_preserving held l) _ = release_counted nothing l.cel
 past_checks_counted w (acquire_preserving held c) _ = acquire_counted 0 1 w.head w.table c refl
 past_checks_counted w (environment script place held) _ =
     boundary_counted (acting w (environment script place held)) (flow_of w.head.next place 0) w.table w.health 0 0 1 0 refl
-past_checks_counted w (try_lock_lem script place held c) _ =
-    let k = lock_counted 1 0 0 (acting w (try_lock_lem script place held c)) w.head.buckets (flow_of w.head.next place 0) w.table w.health c in
+past_checks_counted w (try_lock script place held c) _ =
+    let k = lock_counted 1 0 0 (acting w (try_lock script place held c)) w.head.buckets (flow_of w.head.next place 0) w.table w.health c in
     omega arith
 past_checks_counted w (transactional registry script place held binding bucket) _ =
     let k = transactional registry script place held binding bucket in
@@ -54,8 +54,8 @@ past_checks_counted w (transactional registry script place held binding bucket) 
 past_checks_counted w (acquire_bucket registry script place held binding bucket) _ =
     let k = acquire_bucket registry script place held binding bucket in
     retry_counted (acting w k) w.head.buckets registry binding bucket attempt_limit 0 none_yet (starting w.head place) w.table w.health
-past_checks_counted w (release_all_lem script place leases) _ =
-    back_counted (lease_count leases) (acting w (release_all_lem script place leases)) (holds_of leases) (starting w.head place) w.table w.health
+past_checks_counted w (release_all script place leases) _ =
+    back_counted (lease_count leases) (acting w (release_all script place leases)) (holds_of leases) (starting w.head place) w.table w.health
 past_checks_counted w (acquire_locks registry script place held keys grants) _ =
     let k = acquire_locks registry script place held keys grants in
     locks_counted (acting w k) w.head.buckets w.head.boot registry keys grants (count_in keys) 0 [] (starting w.head place) w.table w.health
@@ -65,7 +65,7 @@ past_checks_counted w (acquire_sorted registry script place held keys grants) _ 
     (λ _.
     locks_counted (acting w k) w.head.buckets w.head.boot registry (sorted_keys w.head.buckets registry keys) grants (length (cells_sorted w.head.buckets registry keys)) 0 [] (starting w.head place) w.table w.health)
 past_checks_counted w (crew counts cells turns) n = absurd (n tt)
-past_checks_counted w (crew_at_work_lem counts cells turns counters) n = absurd (n tt)
+past_checks_counted w (crew_at_work counts cells turns counters) n = absurd (n tt)
 
 -- counts that began at nothing are the numbers
 abbrev Fair : Made (World × Says) → Type 0

@@ -23,45 +23,45 @@ use Rattle.history.specs.World.{World, world_of}
 
 -- a call without its head, table and health: these are what the last item left
 pub data Call : Type 0 where
-  try_acquire_lem : (cell : ℕ) → Call
+  try_acquire : (cell : ℕ) → Call
   drop_lease read_permission competing_acquire release_then_handoff : Lease → Call
   foreign_release drop_preserving : (held : List ℕ) → Lease → Call
   acquire_preserving : (held : List ℕ) (cell : ℕ) → Call
   environment : (script : List ℕ) (place : ℕ) (held : List ℕ) → Call
-  try_lock_lem : (script : List ℕ) (place : ℕ) (held : List ℕ) (cell : ℕ) → Call
+  try_lock : (script : List ℕ) (place : ℕ) (held : List ℕ) (cell : ℕ) → Call
   transactional acquire_bucket : (registry script : List ℕ) (place : ℕ) (held : List ℕ) (binding bucket : ℕ) → Call
-  release_all_lem : (script : List ℕ) (place : ℕ) (leases : List ℕ) → Call
+  release_all : (script : List ℕ) (place : ℕ) (leases : List ℕ) → Call
   acquire_locks : (registry script : List ℕ) (place : ℕ) (held keys grants : List ℕ) → Call
   -- document 02, L4: "Keys in any order, and doubles."
   acquire_sorted : (registry script : List ℕ) (place : ℕ) (held keys grants : List ℕ) → Call
   crew : (counts cells turns : List ℕ) → Call
-  crew_at_work_lem : (counts cells turns counters : List ℕ) → Call
+  crew_at_work : (counts cells turns counters : List ℕ) → Call
 
 -- ---- what a call is given, by kind of call: no script, no list or no buffer is an empty one
 
 -- the script of a call
-abbrev pub script_of_lem : Call → List ℕ
-script_of_lem (try_acquire_lem c) = []
-script_of_lem (drop_lease l) = []
-script_of_lem (read_permission l) = []
-script_of_lem (competing_acquire l) = []
-script_of_lem (release_then_handoff l) = []
-script_of_lem (foreign_release held l) = []
-script_of_lem (drop_preserving held l) = []
-script_of_lem (acquire_preserving held c) = []
-script_of_lem (environment script place held) = script
-script_of_lem (try_lock_lem script place held c) = script
-script_of_lem (transactional registry script place held binding bucket) = script
-script_of_lem (acquire_bucket registry script place held binding bucket) = script
-script_of_lem (release_all_lem script place leases) = script
-script_of_lem (acquire_locks registry script place held keys grants) = script
-script_of_lem (acquire_sorted registry script place held keys grants) = script
-script_of_lem (crew counts cells turns) = []
-script_of_lem (crew_at_work_lem counts cells turns counters) = []
+abbrev pub script_of : Call → List ℕ
+script_of (try_acquire c) = []
+script_of (drop_lease l) = []
+script_of (read_permission l) = []
+script_of (competing_acquire l) = []
+script_of (release_then_handoff l) = []
+script_of (foreign_release held l) = []
+script_of (drop_preserving held l) = []
+script_of (acquire_preserving held c) = []
+script_of (environment script place held) = script
+script_of (try_lock script place held c) = script
+script_of (transactional registry script place held binding bucket) = script
+script_of (acquire_bucket registry script place held binding bucket) = script
+script_of (release_all script place leases) = script
+script_of (acquire_locks registry script place held keys grants) = script
+script_of (acquire_sorted registry script place held keys grants) = script
+script_of (crew counts cells turns) = []
+script_of (crew_at_work counts cells turns counters) = []
 
 -- the place in its script at which a call begins
 abbrev pub place_of : Call → ℕ
-place_of (try_acquire_lem c) = 0
+place_of (try_acquire c) = 0
 place_of (drop_lease l) = 0
 place_of (read_permission l) = 0
 place_of (competing_acquire l) = 0
@@ -70,18 +70,18 @@ place_of (foreign_release held l) = 0
 place_of (drop_preserving held l) = 0
 place_of (acquire_preserving held c) = 0
 place_of (environment script place held) = place
-place_of (try_lock_lem script place held c) = place
+place_of (try_lock script place held c) = place
 place_of (transactional registry script place held binding bucket) = place
 place_of (acquire_bucket registry script place held binding bucket) = place
-place_of (release_all_lem script place leases) = place
+place_of (release_all script place leases) = place
 place_of (acquire_locks registry script place held keys grants) = place
 place_of (acquire_sorted registry script place held keys grants) = place
 place_of (crew counts cells turns) = 0
-place_of (crew_at_work_lem counts cells turns counters) = 0
+place_of (crew_at_work counts cells turns counters) = 0
 
 -- the held list of a call, as cells and serials
 abbrev pub held_of : Call → List Hold
-held_of (try_acquire_lem c) = []
+held_of (try_acquire c) = []
 held_of (drop_lease l) = []
 held_of (read_permission l) = []
 held_of (competing_acquire l) = []
@@ -90,18 +90,18 @@ held_of (foreign_release held l) = holds_of held
 held_of (drop_preserving held l) = holds_of held
 held_of (acquire_preserving held c) = holds_of held
 held_of (environment script place held) = holds_of held
-held_of (try_lock_lem script place held c) = holds_of held
+held_of (try_lock script place held c) = holds_of held
 held_of (transactional registry script place held binding bucket) = holds_of held
 held_of (acquire_bucket registry script place held binding bucket) = holds_of held
-held_of (release_all_lem script place leases) = []
+held_of (release_all script place leases) = []
 held_of (acquire_locks registry script place held keys grants) = holds_of held
 held_of (acquire_sorted registry script place held keys grants) = holds_of held
 held_of (crew counts cells turns) = []
-held_of (crew_at_work_lem counts cells turns counters) = []
+held_of (crew_at_work counts cells turns counters) = []
 
 -- the leases that a call is given to give up, as cells and serials
 abbrev pub given_up : Call → List Hold
-given_up (try_acquire_lem c) = []
+given_up (try_acquire c) = []
 given_up (drop_lease l) = hold_in l ∷ []
 given_up (read_permission l) = []
 given_up (competing_acquire l) = []
@@ -110,14 +110,14 @@ given_up (foreign_release held l) = hold_in l ∷ []
 given_up (drop_preserving held l) = hold_in l ∷ []
 given_up (acquire_preserving held c) = []
 given_up (environment script place held) = []
-given_up (try_lock_lem script place held c) = []
+given_up (try_lock script place held c) = []
 given_up (transactional registry script place held binding bucket) = []
 given_up (acquire_bucket registry script place held binding bucket) = []
-given_up (release_all_lem script place leases) = holds_of leases
+given_up (release_all script place leases) = holds_of leases
 given_up (acquire_locks registry script place held keys grants) = []
 given_up (acquire_sorted registry script place held keys grants) = []
 given_up (crew counts cells turns) = []
-given_up (crew_at_work_lem counts cells turns counters) = []
+given_up (crew_at_work counts cells turns counters) = []
 
 -- a lease of a list
 abbrev pub Among : Lease → List Lease → Type 0
@@ -126,7 +126,7 @@ Among l (k ∷ ks) = (k ≡ l) ⊎ Among l ks
 
 -- the leases that a call names, with their boot numbers: the one that it is given, and those of its list
 abbrev pub NamesLease : Call → Lease → Type 0
-NamesLease (try_acquire_lem c) l = ⊥
+NamesLease (try_acquire c) l = ⊥
 NamesLease (drop_lease m) l = m ≡ l
 NamesLease (read_permission m) l = m ≡ l
 NamesLease (competing_acquire m) l = m ≡ l
@@ -135,18 +135,18 @@ NamesLease (foreign_release held m) l = (m ≡ l) ⊎ Among l (leases_of held)
 NamesLease (drop_preserving held m) l = (m ≡ l) ⊎ Among l (leases_of held)
 NamesLease (acquire_preserving held c) l = Among l (leases_of held)
 NamesLease (environment script place held) l = Among l (leases_of held)
-NamesLease (try_lock_lem script place held c) l = Among l (leases_of held)
+NamesLease (try_lock script place held c) l = Among l (leases_of held)
 NamesLease (transactional registry script place held binding bucket) l = Among l (leases_of held)
 NamesLease (acquire_bucket registry script place held binding bucket) l = Among l (leases_of held)
-NamesLease (release_all_lem script place leases) l = Among l (leases_of leases)
+NamesLease (release_all script place leases) l = Among l (leases_of leases)
 NamesLease (acquire_locks registry script place held keys grants) l = Among l (leases_of held)
 NamesLease (acquire_sorted registry script place held keys grants) l = Among l (leases_of held)
 NamesLease (crew counts cells turns) l = ⊥
-NamesLease (crew_at_work_lem counts cells turns counters) l = ⊥
+NamesLease (crew_at_work counts cells turns counters) l = ⊥
 
 -- the buffer that a call was given
 abbrev pub buffer : Call → List ℕ
-buffer (try_acquire_lem c) = []
+buffer (try_acquire c) = []
 buffer (drop_lease l) = []
 buffer (read_permission l) = []
 buffer (competing_acquire l) = []
@@ -155,18 +155,18 @@ buffer (foreign_release held l) = []
 buffer (drop_preserving held l) = []
 buffer (acquire_preserving held c) = []
 buffer (environment script place held) = []
-buffer (try_lock_lem script place held c) = []
+buffer (try_lock script place held c) = []
 buffer (transactional registry script place held binding bucket) = []
 buffer (acquire_bucket registry script place held binding bucket) = []
-buffer (release_all_lem script place leases) = []
+buffer (release_all script place leases) = []
 buffer (acquire_locks registry script place held keys grants) = grants
 buffer (acquire_sorted registry script place held keys grants) = grants
 buffer (crew counts cells turns) = []
-buffer (crew_at_work_lem counts cells turns counters) = []
+buffer (crew_at_work counts cells turns counters) = []
 
 -- the calls that are given a cell number
 abbrev pub ByCell : Call → Type 0
-ByCell (try_acquire_lem c) = Unit {0}
+ByCell (try_acquire c) = Unit {0}
 ByCell (drop_lease l) = ⊥
 ByCell (read_permission l) = ⊥
 ByCell (competing_acquire l) = ⊥
@@ -175,18 +175,18 @@ ByCell (foreign_release held l) = ⊥
 ByCell (drop_preserving held l) = ⊥
 ByCell (acquire_preserving held c) = Unit {0}
 ByCell (environment script place held) = ⊥
-ByCell (try_lock_lem script place held c) = Unit {0}
+ByCell (try_lock script place held c) = Unit {0}
 ByCell (transactional registry script place held binding bucket) = ⊥
 ByCell (acquire_bucket registry script place held binding bucket) = ⊥
-ByCell (release_all_lem script place leases) = ⊥
+ByCell (release_all script place leases) = ⊥
 ByCell (acquire_locks registry script place held keys grants) = ⊥
 ByCell (acquire_sorted registry script place held keys grants) = ⊥
 ByCell (crew counts cells turns) = ⊥
-ByCell (crew_at_work_lem counts cells turns counters) = ⊥
+ByCell (crew_at_work counts cells turns counters) = ⊥
 
 -- the crew, with or without work
 abbrev pub IsCrew : Call → Type 0
-IsCrew (try_acquire_lem c) = ⊥
+IsCrew (try_acquire c) = ⊥
 IsCrew (drop_lease l) = ⊥
 IsCrew (read_permission l) = ⊥
 IsCrew (competing_acquire l) = ⊥
@@ -195,14 +195,14 @@ IsCrew (foreign_release held l) = ⊥
 IsCrew (drop_preserving held l) = ⊥
 IsCrew (acquire_preserving held c) = ⊥
 IsCrew (environment script place held) = ⊥
-IsCrew (try_lock_lem script place held c) = ⊥
+IsCrew (try_lock script place held c) = ⊥
 IsCrew (transactional registry script place held binding bucket) = ⊥
 IsCrew (acquire_bucket registry script place held binding bucket) = ⊥
-IsCrew (release_all_lem script place leases) = ⊥
+IsCrew (release_all script place leases) = ⊥
 IsCrew (acquire_locks registry script place held keys grants) = ⊥
 IsCrew (acquire_sorted registry script place held keys grants) = ⊥
 IsCrew (crew counts cells turns) = Unit {0}
-IsCrew (crew_at_work_lem counts cells turns counters) = Unit {0}
+IsCrew (crew_at_work counts cells turns counters) = Unit {0}
 
 -- the calls that lock many keys, with their registry and keys: in the order given, and in any order
 pub data ByKeys : Call → (registry keys : List ℕ) → Type 0 where
@@ -221,7 +221,7 @@ key_cell buckets registry keys p = cell_of buckets registry (binding_at keys p) 
 
 -- the cell that a call asks for; 0 where it asks for none, and then it never answers `Granted`
 abbrev pub asked : World → Call → ℕ
-asked w (try_acquire_lem c) = c
+asked w (try_acquire c) = c
 asked w (drop_lease l) = 0
 asked w (read_permission l) = 0
 asked w (competing_acquire l) = l.cell
@@ -230,21 +230,21 @@ asked w (foreign_release held l) = l.cell
 asked w (drop_preserving held l) = 0
 asked w (acquire_preserving held c) = c
 asked w (environment script place held) = 0
-asked w (try_lock_lem script place held c) = c
+asked w (try_lock script place held c) = c
 asked w (transactional registry script place held binding bucket) = cell_of w.head.buckets registry binding bucket
 asked w (acquire_bucket registry script place held binding bucket) = cell_of w.head.buckets registry binding bucket
-asked w (release_all_lem script place leases) = 0
+asked w (release_all script place leases) = 0
 asked w (acquire_locks registry script place held keys grants) = 0
 asked w (acquire_sorted registry script place held keys grants) = 0
 asked w (crew counts cells turns) = 0
-asked w (crew_at_work_lem counts cells turns counters) = 0
+asked w (crew_at_work counts cells turns counters) = 0
 
 -- ---- the checks of a call
 
 -- those of document 01's table on what it takes, in the order of the table, but for 16, which stands before 3 and 12 at its place (document 02, L8);
 -- the sorted call's tests of headers and buckets, position by position, come behind and name the position (crate `sorted_theory`, `KeysFirst`)
 abbrev pub rules : World → Call → List Rule
-rules w (try_acquire_lem c) = cell_rules w.head w.table c
+rules w (try_acquire c) = cell_rules w.head w.table c
 rules w (drop_lease l) = lease_rules w.head w.table l
 rules w (read_permission l) = lease_rules w.head w.table l
 rules w (competing_acquire l) = lease_rules w.head w.table l
@@ -253,14 +253,14 @@ rules w (foreign_release held l) = held_lease_rules w.head w.table held l
 rules w (drop_preserving held l) = held_lease_rules w.head w.table held l
 rules w (acquire_preserving held c) = held_cell_rules w.head w.table held c
 rules w (environment script place held) = script_rules w.head w.table w.health script place held
-rules w (try_lock_lem script place held c) = lock_rules w.head w.table w.health script place held c
+rules w (try_lock script place held c) = lock_rules w.head w.table w.health script place held c
 rules w (transactional registry script place held binding bucket) = bucket_rules w.head w.table w.health registry script place held binding
 rules w (acquire_bucket registry script place held binding bucket) = bucket_rules w.head w.table w.health registry script place held binding
-rules w (release_all_lem script place leases) = release_rules w.head w.table w.health script place leases
+rules w (release_all script place leases) = release_rules w.head w.table w.health script place leases
 rules w (acquire_locks registry script place held keys grants) = locks_rules w.head w.table w.health registry script place held keys grants
 rules w (acquire_sorted registry script place held keys grants) = locks_rules w.head w.table w.health registry script place held keys grants
 rules w (crew counts cells turns) = crew_rules w.head w.table w.health counts cells turns
-rules w (crew_at_work_lem counts cells turns counters) = crew_at_work_rules w.head w.table w.health counts cells turns counters
+rules w (crew_at_work counts cells turns counters) = crew_at_work_rules w.head w.table w.health counts cells turns counters
 
 -- none of them applies
 abbrev pub Clear : List Rule → Type 0
@@ -289,7 +289,7 @@ unchanged_at w k r p = record { seen = (w, says (RefusedAt r p) (counts_of 0 0 0
 
 -- the definition of each call, given the world that the last item left
 unfoldable pub perform : World → Call → Made (World × Says)
-perform w (try_acquire_lem c) = do
+perform w (try_acquire c) = do
   (r, t) ← try_acquire_of w.head w.table c
   gives (world_of r.head t w.health, says r.answer r.counts 0 [])
 perform w (drop_lease l) = do
@@ -316,7 +316,7 @@ perform w (acquire_preserving held c) = do
 perform w (environment script place held) = do
   (r, (t, g)) ← environment_of w.head w.table w.health script place held
   gives (world_of r.head t g, says r.answer r.counts r.place [])
-perform w (try_lock_lem script place held c) = do
+perform w (try_lock script place held c) = do
   (r, (t, g)) ← try_lock_of w.head w.table w.health script place held c
   gives (world_of r.head t g, says r.answer r.counts r.place [])
 perform w (transactional registry script place held binding bucket) = do
@@ -325,7 +325,7 @@ perform w (transactional registry script place held binding bucket) = do
 perform w (acquire_bucket registry script place held binding bucket) = do
   (r, (t, g)) ← acquire_bucket_of w.head w.table w.health registry script place held binding bucket
   gives (world_of r.head t g, says r.answer r.counts r.place [])
-perform w (release_all_lem script place leases) = do
+perform w (release_all script place leases) = do
   (r, (t, g)) ← release_all_of w.head w.table w.health script place leases
   gives (world_of r.head t g, says r.answer r.counts r.place [])
 perform w (acquire_locks registry script place held keys grants) = do
@@ -337,7 +337,7 @@ perform w (acquire_sorted registry script place held keys grants) = do
 perform w (crew counts cells turns) = do
   (r, t) ← crew_of w.head w.table w.health counts cells turns
   gives (world_of r.head t w.health, says r.answer (counts_of 0 0 0 0) 0 [])
-perform w (crew_at_work_lem counts cells turns counters) = do
+perform w (crew_at_work counts cells turns counters) = do
   (r, (t, x)) ← crew_at_work_of w.head w.table w.health counts cells turns counters
   gives (world_of r.head t w.health, says r.answer (counts_of 0 0 0 0) 0 [])
 

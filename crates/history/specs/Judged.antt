@@ -22,7 +22,7 @@ use Rattle.types.specs.declared.ScriptReply.{ScriptReply}
 use Rattle.types.specs.declared.Refusal.{Refusal}
 use Rattle.types.specs.declared.Reply.{Reply}
 use Rattle.history.specs.World.{World, world_of}
-use Rattle.history.specs.Items.{Call, Says, says, try_acquire_lem, drop_lease, read_permission, competing_acquire, release_then_handoff, foreign_release, drop_preserving, acquire_preserving, environment, try_lock_lem, transactional, acquire_bucket, release_all_lem, acquire_locks, acquire_sorted, crew, crew_at_work_lem, unchanged, unchanged_at, perform, script_of_lem, held_of, Clear, rules}
+use Rattle.history.specs.Items.{Call, Says, says, try_acquire, drop_lease, read_permission, competing_acquire, release_then_handoff, foreign_release, drop_preserving, acquire_preserving, environment, try_lock, transactional, acquire_bucket, release_all, acquire_locks, acquire_sorted, crew, crew_at_work, unchanged, unchanged_at, perform, script_of, held_of, Clear, rules}
 
 -- ---- checks that found nothing
 
@@ -75,7 +75,7 @@ judged_at P (key.FaultAt x p) r s = r x p refl
 
 -- what its steps are given
 abbrev pub acting : World → Call → Setting
-acting w k = given w.head (script_of_lem k) (held_of k)
+acting w k = given w.head (script_of k) (held_of k)
 
 -- what a call says, by what it hands over: a reply, with the table; a reply with a script, with table and health
 abbrev pub reply : World → Reply × List ℕ → World × Says
@@ -122,7 +122,7 @@ as_asked w registry keys m =
 
 -- the steps of each call
 abbrev pub past_checks : World → Call → Made (World × Says)
-past_checks w (try_acquire_lem c) = seen_as (reply w) (acquire_of 1 w.head w.table c)
+past_checks w (try_acquire c) = seen_as (reply w) (acquire_of 1 w.head w.table c)
 past_checks w (drop_lease l) = do
   note (released by_caller l.cell l.serial)
   gives (reply w (replied w.head 0 answer.Done, set_cell w.table l.cell 0 0))
@@ -142,19 +142,19 @@ past_checks w (acquire_preserving held c) = seen_as (reply w) (acquire_of 1 w.he
 past_checks w (environment script place held) =
     seen_as (λ m. script_reply_lem (script_reply w.head (run_of m.0 0 1 0) answer.Done, m.1))
     (boundary_of (acting w (environment script place held)) (flow_of w.head.next place 0) w.table w.health)
-past_checks w (try_lock_lem script place held c) = do
+past_checks w (try_lock script place held c) = do
   note attempt_begun
   seen_as (λ m. script_reply_lem (script_reply w.head (run_of m.0.flow 1 m.0.boundaries 0) (answer_of w.head.boot m.0.answer), m.1))
-      (lock_of (acting w (try_lock_lem script place held c)) w.head.buckets (flow_of w.head.next place 0) w.table w.health c)
+      (lock_of (acting w (try_lock script place held c)) w.head.buckets (flow_of w.head.next place 0) w.table w.health c)
 past_checks w (transactional registry script place held binding bucket) =
     seen_as (λ m. script_reply_lem (script_reply w.head m.0.run (answer_of w.head.boot m.0.outcome), m.1))
     (attempt_of (acting w (transactional registry script place held binding bucket)) w.head.buckets registry binding bucket (starting w.head place) w.table w.health)
 past_checks w (acquire_bucket registry script place held binding bucket) =
     seen_as (λ m. script_reply_lem (script_reply w.head m.0.run (answer_of w.head.boot (settled m.0.outcome)), m.1))
     (retry_of attempt_limit 0 none_yet (acting w (acquire_bucket registry script place held binding bucket)) w.head.buckets registry binding bucket (starting w.head place) w.table w.health)
-past_checks w (release_all_lem script place leases) =
+past_checks w (release_all script place leases) =
     seen_as (λ m. script_reply_lem (script_reply w.head m.0 answer.Done, m.1))
-    (give_back_of (lease_count leases) (acting w (release_all_lem script place leases)) (holds_of leases) (starting w.head place) w.table w.health)
+    (give_back_of (lease_count leases) (acting w (release_all script place leases)) (holds_of leases) (starting w.head place) w.table w.health)
 past_checks w (acquire_locks registry script place held keys grants) =
     seen_as (λ m. grant (script_reply w.head m.0.run m.0.answer, m.1))
     (locks_of (count_in keys) 0 (acting w (acquire_locks registry script place held keys grants)) w.head.buckets w.head.boot registry keys [] (starting w.head place) w.table w.health grants)
@@ -162,7 +162,7 @@ past_checks w (acquire_sorted registry script place held keys grants) =
     judge_at (first_key (count_in keys) 0 w.head registry keys) (unchanged_at w (acquire_sorted registry script place held keys grants))
     (seen_as (as_asked w registry keys) (sorted_locks w registry script place held keys grants))
 past_checks w (crew counts cells turns) = shifted rests w counts cells turns []
-past_checks w (crew_at_work_lem counts cells turns counters) = shifted adds w counts cells turns counters
+past_checks w (crew_at_work counts cells turns counters) = shifted adds w counts cells turns counters
 
 -- those of the sorted call, as `perform` has them
 sorted_steps : (w : World) (registry script : List ℕ) (place : ℕ) (held keys grants : List ℕ) (k : KeyCheck)
@@ -180,7 +180,7 @@ module _ (P : Made (World × Says) → Type 0) (w : World) where
   pub performed_by : (k : Call) → ((r : Refusal) → first (rules w k) ≡ Fault r → P (unchanged w k r)) → (Clear (rules w k) → P (past_checks w k)) → P (perform w k)
   unfolding perform try_acquire_of drop_lease_of read_permission_of competing_acquire_of release_then_handoff_of foreign_release_of acquire_preserving_of drop_preserving_of
       environment_of try_lock_of transactional_of acquire_bucket_of release_all_of acquire_locks_of acquire_sorted_of shift_of crew_of crew_at_work_of
-  performed_by (try_acquire_lem c) x y = judged_by (By (reply w)) (rules w (try_acquire_lem c)) x (λ fine. rw append-nil (y fine))
+  performed_by (try_acquire c) x y = judged_by (By (reply w)) (rules w (try_acquire c)) x (λ fine. rw append-nil (y fine))
   performed_by (drop_lease l) x y = judged_by (By (reply w)) (rules w (drop_lease l)) x y
   performed_by (read_permission l) x y = judged_by (By (read w)) (rules w (read_permission l)) x y
   performed_by (competing_acquire l) x y = judged_by (By (reply w)) (rules w (competing_acquire l)) x (λ fine. rw append-nil (y fine))
@@ -189,19 +189,19 @@ module _ (P : Made (World × Says) → Type 0) (w : World) where
   performed_by (drop_preserving held l) x y = judged_by (By (reply w)) (rules w (drop_preserving held l)) x y
   performed_by (acquire_preserving held c) x y = judged_by (By (reply w)) (rules w (acquire_preserving held c)) x (λ fine. rw append-nil (y fine))
   performed_by (environment script place held) x y = judged_by (By script_reply_lem) (rules w (environment script place held)) x (λ fine. simp append-nil (y fine))
-  performed_by (try_lock_lem script place held c) x y = judged_by (By script_reply_lem) (rules w (try_lock_lem script place held c)) x (λ fine. rw (append-nil, append-nil) (y fine))
+  performed_by (try_lock script place held c) x y = judged_by (By script_reply_lem) (rules w (try_lock script place held c)) x (λ fine. rw (append-nil, append-nil) (y fine))
   performed_by (transactional registry script place held binding bucket) x y =
       judged_by (By script_reply_lem) (rules w (transactional registry script place held binding bucket)) x (λ fine. simp append-nil (y fine))
   performed_by (acquire_bucket registry script place held binding bucket) x y =
       judged_by (By script_reply_lem) (rules w (acquire_bucket registry script place held binding bucket)) x (λ fine. simp append-nil (y fine))
-  performed_by (release_all_lem script place leases) x y = judged_by (By script_reply_lem) (rules w (release_all_lem script place leases)) x (λ fine. simp append-nil (y fine))
+  performed_by (release_all script place leases) x y = judged_by (By script_reply_lem) (rules w (release_all script place leases)) x (λ fine. simp append-nil (y fine))
   performed_by (acquire_locks registry script place held keys grants) x y =
       judged_by (By grant) (rules w (acquire_locks registry script place held keys grants)) x (λ fine. simp append-nil (y fine))
   performed_by (acquire_sorted registry script place held keys grants) x y =
       judged_by (By grant) (rules w (acquire_sorted registry script place held keys grants)) x
       (λ fine. subst P (sym (sorted_steps w registry script place held keys grants (first_key (count_in keys) 0 w.head registry keys))) (y fine))
   performed_by (crew counts cells turns) x y = judged_by (By (crewed w)) (rules w (crew counts cells turns)) x (λ fine. simp append-nil (y fine))
-  performed_by (crew_at_work_lem counts cells turns counters) x y = judged_by (By (worked w)) (rules w (crew_at_work_lem counts cells turns counters)) x (λ fine. simp append-nil (y fine))
+  performed_by (crew_at_work counts cells turns counters) x y = judged_by (By (worked w)) (rules w (crew_at_work counts cells turns counters)) x (λ fine. simp append-nil (y fine))
 
   pub performed : (k : Call) → ((r : Refusal) → P (unchanged w k r)) → (Clear (rules w k) → P (past_checks w k)) → P (perform w k)
   performed k x y = performed_by k (λ r _. x r) y

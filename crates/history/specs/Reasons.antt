@@ -9,12 +9,12 @@ use Rattle.types.specs.declared.Reason.{Reason}
 use Rattle.types.specs.declared.Reason.TheVariants.{Held, Before, After}
 use Rattle.types.specs.declared.State.TheVariants as state
 use Rattle.history.specs.World.{World, Live, Healthy, now, Whole, Spent}
-use Rattle.history.specs.Items.{Call, try_acquire_lem, drop_lease, read_permission, competing_acquire, release_then_handoff, foreign_release, drop_preserving, acquire_preserving, environment, try_lock_lem, transactional, acquire_bucket, release_all_lem, acquire_locks, acquire_sorted, crew, crew_at_work_lem, asked, Says, Build}
-use Rattle.history.specs.Statements.{answer_in_lem, world_in}
+use Rattle.history.specs.Items.{Call, try_acquire, drop_lease, read_permission, competing_acquire, release_then_handoff, foreign_release, drop_preserving, acquire_preserving, environment, try_lock, transactional, acquire_bucket, release_all, acquire_locks, acquire_sorted, crew, crew_at_work, asked, Says, Build}
+use Rattle.history.specs.Statements.{answer_in, world_in}
 
 -- the calls that make one attempt to lock one cell, with boundaries
 abbrev pub LocksOnce : Call → Type 0
-LocksOnce (try_acquire_lem c) = ⊥
+LocksOnce (try_acquire c) = ⊥
 LocksOnce (drop_lease l) = ⊥
 LocksOnce (read_permission l) = ⊥
 LocksOnce (competing_acquire l) = ⊥
@@ -23,14 +23,14 @@ LocksOnce (foreign_release held l) = ⊥
 LocksOnce (drop_preserving held l) = ⊥
 LocksOnce (acquire_preserving held c) = ⊥
 LocksOnce (environment script place held) = ⊥
-LocksOnce (try_lock_lem script place held c) = Unit {0}
+LocksOnce (try_lock script place held c) = Unit {0}
 LocksOnce (transactional registry script place held binding bucket) = Unit {0}
 LocksOnce (acquire_bucket registry script place held binding bucket) = ⊥
-LocksOnce (release_all_lem script place leases) = ⊥
+LocksOnce (release_all script place leases) = ⊥
 LocksOnce (acquire_locks registry script place held keys grants) = ⊥
 LocksOnce (acquire_sorted registry script place held keys grants) = ⊥
 LocksOnce (crew counts cells turns) = ⊥
-LocksOnce (crew_at_work_lem counts cells turns counters) = ⊥
+LocksOnce (crew_at_work counts cells turns counters) = ⊥
 
 -- how many boundaries a reply counts
 abbrev pub boundaries_in : Made (World × Says) → ℕ
@@ -64,9 +64,9 @@ pub record WaitedAfter (w : World) (c s : ℕ) (m : Made (World × Says)) : Type
 
 -- each reason is given exactly if it is so, whatever the arena holds. So at most one of the three is so, and exactly one where the answer is Busy
 pub record Reasoned (w : World) (c : ℕ) (m : Made (World × Says)) : Type 0 where
-  pub before : (answer_in_lem m ≡ Busy Before) ↔ WaitedBefore c m
-  pub held : (s : ℕ) → (answer_in_lem m ≡ Busy (Held s)) ↔ WasHeld c s m
-  pub after : (s : ℕ) → (answer_in_lem m ≡ Busy (After s)) ↔ WaitedAfter w c s m
+  pub before : (answer_in m ≡ Busy Before) ↔ WaitedBefore c m
+  pub held : (s : ℕ) → (answer_in m ≡ Busy (Held s)) ↔ WasHeld c s m
+  pub after : (s : ℕ) → (answer_in m ≡ Busy (After s)) ↔ WaitedAfter w c s m
 
 abbrev pub ReasonsAre : Build → Type 0
 ReasonsAre f = (w : World) (k : Call) → LocksOnce k → Reasoned w (asked w k) (f w k)
@@ -75,17 +75,17 @@ ReasonsAre f = (w : World) (k : Call) → LocksOnce k → Reasoned w (asked w k)
 abbrev pub EarlyTakesNothing : Build → Type 0
 EarlyTakesNothing f =
     (w : World) (k : Call) → LocksOnce k
-    → (answer_in_lem (f w k) ≡ Busy Before → TakesNothing (f w k).log)
-    × ((s : ℕ) → answer_in_lem (f w k) ≡ Busy (Held s) → TakesNothing (f w k).log)
+    → (answer_in (f w k) ≡ Busy Before → TakesNothing (f w k).log)
+    × ((s : ℕ) → answer_in (f w k) ≡ Busy (Held s) → TakesNothing (f w k).log)
 
 -- `held s`: the lease (cell, s) is live there
 abbrev pub HolderLives : Build → Type 0
-HolderLives f = (w : World) (k : Call) (s : ℕ) → LocksOnce k → answer_in_lem (f w k) ≡ Busy (Held s) → Live (world_in (f w k)) (hold_of (asked w k) s)
+HolderLives f = (w : World) (k : Call) (s : ℕ) → LocksOnce k → answer_in (f w k) ≡ Busy (Held s) → Live (world_in (f w k)) (hold_of (asked w k) s)
 
 -- `after s`: from an arena with no damaged cell, the serial was issued and owns nothing afterwards
 abbrev pub LateIsSpent : Build → Type 0
-LateIsSpent f = (w : World) (k : Call) (s : ℕ) → LocksOnce k → Whole w → answer_in_lem (f w k) ≡ Busy (After s) → Spent (world_in (f w k)) s
+LateIsSpent f = (w : World) (k : Call) (s : ℕ) → LocksOnce k → Whole w → answer_in (f w k) ≡ Busy (After s) → Spent (world_in (f w k)) s
 
 -- one compare-and-set by itself is Busy only by a holder, and `competing_acquire_is_excluded` names the serial of the lease that it was given
 abbrev pub OwnSerial : Build → Type 0
-OwnSerial f = (w : World) (l : Lease) (why : Reason) → answer_in_lem (f w (competing_acquire l)) ≡ Busy why → why ≡ Held l.serial
+OwnSerial f = (w : World) (l : Lease) (why : Reason) → answer_in (f w (competing_acquire l)) ≡ Busy why → why ≡ Held l.serial

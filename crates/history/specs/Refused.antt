@@ -31,7 +31,7 @@ use Rattle.types.specs.declared.Tried.{Tried}
 use Rattle.choice.specs.Pick.{if_both}
 use Rattle.laws.specs.Outcomes.{Comes, granted, busy, poisoned, damaged, spent, lock_comes}
 use Rattle.history.specs.World.{World}
-use Rattle.history.specs.Items.{Call, Says, unchanged, try_acquire_lem, drop_lease, read_permission, competing_acquire, release_then_handoff, foreign_release, drop_preserving, acquire_preserving, environment, try_lock_lem, transactional, acquire_bucket, release_all_lem, acquire_locks, acquire_sorted, crew, crew_at_work_lem, ByCell, perform}
+use Rattle.history.specs.Items.{Call, Says, unchanged, try_acquire, drop_lease, read_permission, competing_acquire, release_then_handoff, foreign_release, drop_preserving, acquire_preserving, environment, try_lock, transactional, acquire_bucket, release_all, acquire_locks, acquire_sorted, crew, crew_at_work, ByCell, perform}
 use Rattle.history.specs.Statements.{Early, ChangesNothing, CrewRefused, nobody_moved, CrewAtWorkRefused}
 use Rattle.history.specs.Judged.{judged, judged_at, acting, sorted_locks, past_checks, performed}
 
@@ -151,7 +151,7 @@ abbrev Bounded : Call → Answer → Type 0
 Bounded k a = OfAnswer LateByCell a ⊎ ((ByCell k → ⊥) × OfAnswer Late a)
 
 past_checks_late : (w : World) (k : Call) → Bounded k (past_checks w k).seen.1.answer
-past_checks_late w (try_acquire_lem c) = inl (acquire_late 1 w.head w.table c)
+past_checks_late w (try_acquire c) = inl (acquire_late 1 w.head w.table c)
 past_checks_late w (drop_lease l) = inl tt
 past_checks_late w (read_permission l) = inl tt
 past_checks_late w (competing_acquire l) = inl (acquire_late 1 w.head w.table l.cell)
@@ -162,8 +162,8 @@ past_checks_late w (foreign_release held l) =
 past_checks_late w (drop_preserving held l) = inl tt
 past_checks_late w (acquire_preserving held c) = inl (acquire_late 1 w.head w.table c)
 past_checks_late w (environment script place held) = inl tt
-past_checks_late w (try_lock_lem script place held c) =
-    let e = acting w (try_lock_lem script place held c) in
+past_checks_late w (try_lock script place held c) =
+    let e = acting w (try_lock script place held c) in
     let f = flow_of w.head.next place 0 in
     inl (answer_late LateByCell w.head.boot (lock_of e w.head.buckets f w.table w.health c).seen.0.answer (lock_late (lock_comes e w.head.buckets c f w.table w.health)))
 past_checks_late w (transactional registry script place held binding bucket) =
@@ -175,7 +175,7 @@ past_checks_late w (acquire_bucket registry script place held binding bucket) =
     let o = (retry_of attempt_limit 0 none_yet e w.head.buckets registry binding bucket (starting w.head place) w.table w.health).seen.0.outcome in
     let late = retry_late e w.head.buckets registry binding bucket attempt_limit 0 none_yet (starting w.head place) w.table w.health in
     inr (λ z. z, answer_late Late w.head.boot (settled o) (settled_late o late))
-past_checks_late w (release_all_lem script place leases) = inl tt
+past_checks_late w (release_all script place leases) = inl tt
 past_checks_late w (acquire_locks registry script place held keys grants) =
     let e = acting w (acquire_locks registry script place held keys grants) in
     inl (locks_late LateByCell (count_in keys) 0 e w.head.buckets w.head.boot registry keys [] (starting w.head place) w.table w.health grants)
@@ -186,7 +186,7 @@ past_checks_late w (acquire_sorted registry script place held keys grants) =
     asked_late LateByCell (cells_asked w.head.buckets registry keys) (cells_sorted w.head.buckets registry keys) (sorted_locks w registry script place held keys grants).seen.0.answer
     (locks_late LateByCell (length (cells_sorted w.head.buckets registry keys)) 0 e w.head.buckets w.head.boot registry (sorted_keys w.head.buckets registry keys) [] (starting w.head place) w.table w.health grants)))
 past_checks_late w (crew counts cells turns) = inl tt
-past_checks_late w (crew_at_work_lem counts cells turns counters) = inl tt
+past_checks_late w (crew_at_work counts cells turns counters) = inl tt
 
 -- so no steps answer an early one, and checks leave all as it was
 never : (k : Call) (a : Answer) (r : Refusal) → Bounded k a → a ≡ answer.Refused r → Early k r → ⊥

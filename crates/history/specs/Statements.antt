@@ -21,7 +21,7 @@ use Rattle.types.specs.declared.Refusal.TheVariants.{StaleBoot}
 use Rattle.types.specs.declared.Check.TheVariants.{Fine}
 use Rattle.laws.specs.Checks.{lease_in}
 use Rattle.history.specs.World.{World, world_of, cells, Live, now, Lawful, Sound, Spent, Unreleased, caller_releases, bits, number_of_lem, attempts, boundaries, yields, drops, takes, releases, Whole, Apart}
-use Rattle.history.specs.Items.{Call, try_acquire_lem, drop_lease, read_permission, competing_acquire, release_then_handoff, foreign_release, drop_preserving, acquire_preserving, environment, try_lock_lem, transactional, acquire_bucket, release_all_lem, acquire_locks, acquire_sorted, crew, crew_at_work_lem, NamesLease, ByKeys, script_of_lem, place_of, held_of, given_up, buffer, ByCell, IsCrew, asked, key_cell, Says, unchanged, saying, perform, Build, Stepper, Item, preparation, Course, cold, noted, history_of, preparing, next_item, run, call, foreign_step, preparation_over, salvage, salvage_over, salvaging}
+use Rattle.history.specs.Items.{Call, try_acquire, drop_lease, read_permission, competing_acquire, release_then_handoff, foreign_release, drop_preserving, acquire_preserving, environment, try_lock, transactional, acquire_bucket, release_all, acquire_locks, acquire_sorted, crew, crew_at_work, NamesLease, ByKeys, script_of, place_of, held_of, given_up, buffer, ByCell, IsCrew, asked, key_cell, Says, unchanged, saying, perform, Build, Stepper, Item, preparation, Course, cold, noted, history_of, preparing, next_item, run, call, foreign_step, preparation_over, salvage, salvage_over, salvaging}
 use Rattle.types.specs.declared.SalvageAnswer.TheVariants as salvaged
 
 -- ---- where a stretch of a history begins: "Demand 2 now starts from a prepared or a salvaged table."
@@ -153,8 +153,8 @@ SalvageRefusedStays =
 
 -- ---- of one call: its answer, its grant buffer, and the world that it leaves
 
-abbrev pub answer_in_lem : Made (World × Says) → Answer
-answer_in_lem m = m.seen.1.answer
+abbrev pub answer_in : Made (World × Says) → Answer
+answer_in m = m.seen.1.answer
 
 abbrev pub buffer_in : Made (World × Says) → List ℕ
 buffer_in m = m.seen.1.grants
@@ -164,7 +164,7 @@ world_in m = m.seen.0
 
 -- the same of ours
 abbrev pub answers : World → Call → Answer
-answers w k = answer_in_lem (perform w k)
+answers w k = answer_in (perform w k)
 
 abbrev pub leaves : World → Call → World
 leaves w k = world_in (perform w k)
@@ -195,7 +195,7 @@ Early k r = (number_of r ≤ 5) ⊎ (((number_of r ≡ 8) × ByCell k) ⊎ (12 �
 
 abbrev pub ChangesNothing : Build → Type 0
 ChangesNothing f =
-    (w : World) (k : Call) (r : Refusal) → answer_in_lem (f w k) ≡ Refused r → Early k r → f w k ≡ unchanged w k r
+    (w : World) (k : Call) (r : Refusal) → answer_in (f w k) ≡ Refused r → Early k r → f w k ≡ unchanged w k r
 
 -- the same of a crew: "for each member, cells taken and cells released, and the counts of moving and idle turns" are 0
 abbrev pub CrewBuild : Type 0
@@ -223,7 +223,7 @@ CrewAtWorkRefused f =
 -- "Cell number = header x B + bucket.": a grant names the cell that was asked for, by key the key's own. Document 02, L8: "The head and every lease
 -- gain a boot number": a grant has the head's
 abbrev pub GrantIs : Build → Type 0
-GrantIs f = (w : World) (k : Call) (l : Lease) → answer_in_lem (f w k) ≡ Granted l → (l.cell ≡ asked w k) × (l.boot ≡ w.head.boot)
+GrantIs f = (w : World) (k : Call) (l : Lease) → answer_in (f w k) ≡ Granted l → (l.cell ≡ asked w k) × (l.boot ≡ w.head.boot)
 
 -- "On a grant, multi-lock's buffer holds cell and serial for each key, in key order". Document 02, L4: "hand back one lease per key in the
 -- caller's order". L8: three words a lease, the third the head's boot number
@@ -231,7 +231,7 @@ abbrev pub BufferIs : Build → Type 0
 BufferIs f =
     (w : World) (k : Call) (registry keys : List ℕ) → ByKeys k registry keys
     → let m = f w k in
-    answer_in_lem m ≡ AllGranted
+    answer_in m ≡ AllGranted
     → (length (buffer_in m) ≡ 3 * count_in keys)
     × ((p : ℕ) → p < count_in keys → (hold_at (holds_of (buffer_in m)) p).cell ≡ key_cell w.head.buckets registry keys p)
     × ((p : ℕ) → p < count_in keys → (lease_in (buffer_in m) p).boot ≡ w.head.boot)
@@ -247,7 +247,7 @@ HandsOver (Refused r) grants l = ⊥
 HandsOver (RefusedAt r p) grants l = ⊥
 
 abbrev pub Gives : Made (World × Says) → Hold → Type 0
-Gives m = HandsOver (answer_in_lem m) (buffer_in m)
+Gives m = HandsOver (answer_in m) (buffer_in m)
 
 -- what is handed over is live in the world that the call leaves
 abbrev pub GivenLive : Build → Type 0
@@ -285,15 +285,15 @@ NothingHeld k m =
     → GivenBack c s after × (Live (world_in m) (hold_of c s) → ⊥))
 
 abbrev pub NothingNew : Build → Type 0
-NothingNew f = (w : World) (k : Call) → (IsCrew k → ⊥) → Fails (answer_in_lem (f w k)) → NothingHeld k (f w k)
+NothingNew f = (w : World) (k : Call) → (IsCrew k → ⊥) → Fails (answer_in (f w k)) → NothingHeld k (f w k)
 
 -- ---- giving back: "last first"
 
 abbrev pub FallingAll : Build → Type 0
 FallingAll f =
     (w : World) (script : List ℕ) (place : ℕ) (leases : List ℕ)
-    → let m = f w (release_all_lem script place leases) in
-    answer_in_lem m ≡ Done → caller_releases m.log ≡ reverse (holds_of leases)
+    → let m = f w (release_all script place leases) in
+    answer_in m ≡ Done → caller_releases m.log ≡ reverse (holds_of leases)
 
 -- "On a refusal at position p all taken leases are released as in `release_all`": the log of a refused multi-lock parts in two. The keys
 -- before the position p were locked in the first part, each its own cell, and every other lease taken there was given back there; the second
@@ -316,7 +316,7 @@ abbrev pub RollbackIs : Build → Type 0
 RollbackIs f =
     (w : World) (registry script : List ℕ) (place : ℕ) (held keys grants : List ℕ) (r : Refusal) (p : ℕ)
     → let m = f w (acquire_locks registry script place held keys grants) in
-    answer_in_lem m ≡ RefusedAt r p → RolledBack w.head.buckets registry keys p m.log
+    answer_in m ≡ RefusedAt r p → RolledBack w.head.buckets registry keys p m.log
 
 -- ---- "up to a release naming its cell and serial": every release is one that the call, or a step of its script from its place on, named
 
@@ -327,7 +327,7 @@ ByStep script low c s = (p : ℕ) × (low ≤ p) × (p < steps_in script) × (ki
 abbrev pub Named : Build → Type 0
 Named f =
     (w : World) (k : Call) (c s : ℕ) (before after : List Event)
-    → ((f w k).log ≡ before ++ (released by_script c s ∷ after) → ByStep (script_of_lem k) (place_of k) c s)
+    → ((f w k).log ≡ before ++ (released by_script c s ∷ after) → ByStep (script_of k) (place_of k) c s)
     × ((f w k).log ≡ before ++ (released by_caller c s ∷ after)
     → (is_in (hold_of c s) (given_up k) ≡ true) ⊎ ((m n : List Event) × (before ≡ m ++ (took by_caller c s ∷ n))))
 
@@ -370,7 +370,7 @@ RefusedStale f =
 
 -- the calls that are given one lease and no list
 abbrev pub OneLease : Call → Lease → Type 0
-OneLease (try_acquire_lem c) l = ⊥
+OneLease (try_acquire c) l = ⊥
 OneLease (drop_lease m) l = m ≡ l
 OneLease (read_permission m) l = m ≡ l
 OneLease (competing_acquire m) l = m ≡ l
@@ -379,14 +379,14 @@ OneLease (foreign_release held m) l = ⊥
 OneLease (drop_preserving held m) l = ⊥
 OneLease (acquire_preserving held c) l = ⊥
 OneLease (environment script place held) l = ⊥
-OneLease (try_lock_lem script place held c) l = ⊥
+OneLease (try_lock script place held c) l = ⊥
 OneLease (transactional registry script place held binding bucket) l = ⊥
 OneLease (acquire_bucket registry script place held binding bucket) l = ⊥
-OneLease (release_all_lem script place leases) l = ⊥
+OneLease (release_all script place leases) l = ⊥
 OneLease (acquire_locks registry script place held keys grants) l = ⊥
 OneLease (acquire_sorted registry script place held keys grants) l = ⊥
 OneLease (crew counts cells turns) l = ⊥
-OneLease (crew_at_work_lem counts cells turns counters) l = ⊥
+OneLease (crew_at_work counts cells turns counters) l = ⊥
 
 -- the calls that are given one lease beside a held list
 pub data Beside : Call → (held : List ℕ) → Lease → Type 0 where
@@ -409,7 +409,7 @@ pub data Listed (w : World) : Call → (leases : List ℕ) → (ℕ → List Rul
   beside_drop : (held : List ℕ) (l : Lease) → Listed w (drop_preserving held l) held (λ i. bad_shape w.head w.table ∷ held_before w held i)
   beside_acquire : (held : List ℕ) (c : ℕ) → Listed w (acquire_preserving held c) held (λ i. bad_shape w.head w.table ∷ held_before w held i)
   in_environment : (script : List ℕ) (place : ℕ) (held : List ℕ) → Listed w (environment script place held) held (λ i. scripted w script place ++ held_before w held i)
-  in_lock : (script : List ℕ) (place : ℕ) (held : List ℕ) (c : ℕ) → Listed w (try_lock_lem script place held c) held (λ i. scripted w script place ++ held_before w held i)
+  in_lock : (script : List ℕ) (place : ℕ) (held : List ℕ) (c : ℕ) → Listed w (try_lock script place held c) held (λ i. scripted w script place ++ held_before w held i)
   in_attempt : (registry script : List ℕ) (place : ℕ) (held : List ℕ) (binding bucket : ℕ)
       → Listed w (transactional registry script place held binding bucket) held (λ i. keyed w registry script place ++ held_before w held i)
   in_attempts : (registry script : List ℕ) (place : ℕ) (held : List ℕ) (binding bucket : ℕ)
@@ -419,7 +419,7 @@ pub data Listed (w : World) : Call → (leases : List ℕ) → (ℕ → List Rul
   in_sorted : (registry script : List ℕ) (place : ℕ) (held keys grants : List ℕ)
       → Listed w (acquire_sorted registry script place held keys grants) held (λ i. keyed w registry script place ++ held_before w held i)
   to_release : (script : List ℕ) (place : ℕ) (leases : List ℕ)
-      → Listed w (release_all_lem script place leases) leases
+      → Listed w (release_all script place leases) leases
       (λ i. scripted w script place ++ (too_many_leases leases ∷ not_releasable w.head w.table 0 [] (take i (leases_of leases))))
 
 -- where a call is given a lease, by position, and what it tests before that lease
@@ -441,5 +441,5 @@ NamesPlaced = (w : World) (k : Call) (l : Lease) → NamesLease k l ↔ ((ahead 
 abbrev pub StaleIs16 : Build → Type 0
 StaleIs16 f =
     (w : World) (k : Call) (i : ℕ)
-    → (answer_in_lem (f w k) ≡ Refused (StaleBoot i))
+    → (answer_in (f w k) ≡ Refused (StaleBoot i))
     ↔ ((l : Lease) × (ahead : List Rule) × Placed w k l ahead i × (first ahead ≡ Fine) × (is_stale w.head l ≡ true))

@@ -24,11 +24,11 @@ use Rattle.types.specs.declared.Tried.{Tried}
 use Rattle.laws.specs.Outcomes.{retry_first}
 use Rattle.history.specs.World.{World}
 use Rattle.history.specs.Items.{Says, says, perform, acquire_bucket, environment, transactional}
-use Rattle.history.specs.Statements.{world_in, answer_in_lem}
+use Rattle.history.specs.Statements.{world_in, answer_in}
 use Rattle.history.specs.Tests.{differ, if_cases, In}
 use Rattle.history.proofs.Logs.{nothing}
 use Rattle.history.specs.Judged.{past_checks, made_so}
-use Rattle.history.proofs.Steps.{With, world_at, of_run, of_tried}
+use Rattle.history.specs.Steps.{With, world_at, of_run, of_tried}
 use Rattle.history.proofs.Calls.{call_kept}
 use Rattle.history_exact.specs.Statements.{Passes}
 use Rattle.history_exact.specs.Script.{environment_has, transactional_has, place_in}
@@ -187,10 +187,10 @@ module _ (attempt between attempt' between' : World → ℕ → Made (World × S
       → Attempts attempt' between' i last w p m
   attempts_same k all_busy = all_busy
   attempts_same {i} {last} {w} {p} k (the_last l n) =
-      subst (λ (x : Made (World × Says)). ((why : Reason) → answer_in_lem x ≡ Busy why → ⊥) → Attempts attempt' between' i last w p x) (same_attempt w p k) (the_last l) n
+      subst (λ (x : Made (World × Says)). ((why : Reason) → answer_in x ≡ Busy why → ⊥) → Attempts attempt' between' i last w p x) (same_attempt w p k) (the_last l) n
   attempts_same {i} {last} {w} {p} k (one_busy {m = m} {n = n} why l b x rest) =
       let y = pause_same (attempt_ok w p k) x in
-      subst (λ (a : Made (World × Says)). answer_in_lem a ≡ Busy why → Pause attempt' between' i (world_in a) (place_in a) m → Attempts attempt' between' i last w p (a and_then (m and_then n)))
+      subst (λ (a : Made (World × Says)). answer_in a ≡ Busy why → Pause attempt' between' i (world_in a) (place_in a) m → Attempts attempt' between' i last w p (a and_then (m and_then n)))
       (same_attempt w p k) (λ c z. one_busy why l c z (attempts_same y.1 rest)) b y.0
 
 module _ (registry script held : List ℕ) (binding bucket : ℕ) where

@@ -20,7 +20,7 @@ use Rattle.types.specs.declared.Refusal.{Refusal}
 use Rattle.types.specs.declared.Refusal.TheVariants.{Poisoned, SerializationFailure}
 use Rattle.history.specs.World.{World, caller_releases}
 use Rattle.history.specs.Items.{Build, Says, acquire_bucket, acquire_locks, says, environment, transactional, drop_lease, Call}
-use Rattle.history.specs.Statements.{answer_in_lem, world_in}
+use Rattle.history.specs.Statements.{answer_in, world_in}
 use Rattle.history_exact.specs.Statements.{Passes}
 use Rattle.history_exact.specs.Script.{place_in}
 
@@ -58,7 +58,7 @@ pub data Ends : Answer → (boundaries : ℕ) (taken released : List Hold) → T
   granted : (l : Lease) → Ends (Granted l) 3 (hold_in l ∷ []) []
 
 abbrev pub Ending : Made (World × Says) → Type 0
-Ending m = Ends (answer_in_lem m) m.seen.1.counts.boundaries (caller_takes m.log) (caller_releases m.log)
+Ending m = Ends (answer_in m) m.seen.1.counts.boundaries (caller_takes m.log) (caller_releases m.log)
 
 abbrev pub AttemptEnds : Build → Type 0
 AttemptEnds f =
@@ -101,9 +101,9 @@ module _ (attempt between : World → (place : ℕ) → Made (World × Says)) wh
     -- "After 4,096: SerializationFailure." "refusal 11 carries that reason"
     all_busy : {last : Reason} {w : World} {p : ℕ} → Attempts 4096 last w p (record { seen = (w, says (Refused (SerializationFailure last)) (counts_of 0 0 0 0) p []); log = [] })
     -- an attempt that is not Busy is the last
-    the_last : {i : ℕ} {last : Reason} {w : World} {p : ℕ} → i < 4096 → ((why : Reason) → answer_in_lem (attempt w p) ≡ Busy why → ⊥)
+    the_last : {i : ℕ} {last : Reason} {w : World} {p : ℕ} → i < 4096 → ((why : Reason) → answer_in (attempt w p) ≡ Busy why → ⊥)
         → Attempts i last w p (attempt w p)
-    one_busy : {i : ℕ} {last : Reason} {w : World} {p : ℕ} {m n : Made (World × Says)} (why : Reason) → i < 4096 → answer_in_lem (attempt w p) ≡ Busy why
+    one_busy : {i : ℕ} {last : Reason} {w : World} {p : ℕ} {m n : Made (World × Says)} (why : Reason) → i < 4096 → answer_in (attempt w p) ≡ Busy why
         → Pause i (world_in (attempt w p)) (place_in (attempt w p)) m → Attempts (i + 1) why (world_in m) (place_in m) n
         → Attempts i last w p (attempt w p and_then (m and_then n))
 
@@ -136,26 +136,26 @@ module _ (f : Build) (boot : ℕ) (registry script held keys grants : List ℕ) 
   pub data GivesBack : List Hold → World → (place : ℕ) → Made (World × Says) → Type 0 where
     all_back : {w : World} {place : ℕ} → GivesBack [] w place (record { seen = (w, says Done (counts_of 0 0 0 0) place []); log = [] })
     one_back : {ls : List Hold} {w v : World} {place : ℕ} {n : Made (World × Says)} (l : Hold)
-        → answer_in_lem (dropping l w) ≡ Done → v ≡ world_in (dropping l w) → answer_in_lem (between ls v place) ≡ Done
+        → answer_in (dropping l w) ≡ Done → v ≡ world_in (dropping l w) → answer_in (between ls v place) ≡ Done
         → GivesBack ls (world_in (between ls v place)) (place_in (between ls v place)) n
         → GivesBack (ls ++ (l ∷ [])) w place (dropping l w and_then (between ls v place and_then n))
 
   -- "multi-lock adds the key's position", "the grant buffer is unchanged"
-  abbrev pub refused_at_lem : Refusal → ℕ → Made (World × Says) → Made (World × Says)
-  refused_at_lem r p m = record { seen = (m.seen.0, says (RefusedAt r p) m.seen.1.counts m.seen.1.place grants); log = m.log }
+  abbrev pub refused_at : Refusal → ℕ → Made (World × Says) → Made (World × Says)
+  refused_at r p m = record { seen = (m.seen.0, says (RefusedAt r p) m.seen.1.counts m.seen.1.place grants); log = m.log }
 
   -- keys from position p on, with these leases taken; each call passes its checks
   pub data KeyByKey : (p : ℕ) → List Hold → World → (place : ℕ) → Made (World × Says) → Type 0 where
     all_locked : {p : ℕ} {taken : List Hold} {w : World} {place : ℕ} → p ≡ count_in keys
         → KeyByKey p taken w place (record { seen = (w, says AllGranted (counts_of 0 0 0 0) place (words_of boot taken)); log = [] })
     one_locked : {p : ℕ} {taken : List Hold} {w : World} {place : ℕ} {n : Made (World × Says)} (l : Hold) → p < count_in keys
-        → Passes w (key_at p taken place) → answer_in_lem (locking p taken w place) ≡ Granted (lease_under boot l)
+        → Passes w (key_at p taken place) → answer_in (locking p taken w place) ≡ Granted (lease_under boot l)
         → KeyByKey (p + 1) (taken ++ (l ∷ [])) (world_in (locking p taken w place)) (place_in (locking p taken w place)) n
         → KeyByKey p taken w place (locking p taken w place and_then n)
     one_refused : {p : ℕ} {taken : List Hold} {w : World} {place : ℕ} {n : Made (World × Says)} (r : Refusal) → p < count_in keys
-        → Passes w (key_at p taken place) → answer_in_lem (locking p taken w place) ≡ Refused r
+        → Passes w (key_at p taken place) → answer_in (locking p taken w place) ≡ Refused r
         → GivesBack taken (world_in (locking p taken w place)) (place_in (locking p taken w place)) n
-        → KeyByKey p taken w place (refused_at_lem r p (locking p taken w place and_then n))
+        → KeyByKey p taken w place (refused_at r p (locking p taken w place and_then n))
 
 abbrev pub LocksAsCalls : Build → Type 0
 LocksAsCalls f =
@@ -197,7 +197,7 @@ abbrev pub BucketRetries : Build → Type 0
 BucketRetries f =
     (w : World) (registry script : List ℕ) (place : ℕ) (held : List ℕ) (binding bucket : ℕ)
     → let k = acquire_bucket registry script place held binding bucket in
-    Passes w k → Retries (answer_in_lem (f w k)) (f w k).seen.1.counts.attempts (f w k).seen.1.counts.yields (spins_in (f w k).log)
+    Passes w k → Retries (answer_in (f w k)) (f w k).seen.1.counts.attempts (f w k).seen.1.counts.yields (spins_in (f w k).log)
 
 -- multi-lock: the same for each key, summed over the keys; each divided by 64, rounded down
 unfoldable pub total_64 : List ℕ → ℕ
@@ -226,7 +226,7 @@ abbrev pub LocksRetry : Build → Type 0
 LocksRetry f =
     (w : World) (registry script : List ℕ) (place : ℕ) (held keys grants : List ℕ)
     → let k = acquire_locks registry script place held keys grants in
-    Passes w k → KeysRetried (count_in keys) (answer_in_lem (f w k)) (f w k).seen.1.counts.yields (spins_in (f w k).log)
+    Passes w k → KeysRetried (count_in keys) (answer_in (f w k)) (f w k).seen.1.counts.yields (spins_in (f w k).log)
 
 -- the boundaries: what each attempt's ending gives, 0, 1, 2 or 3; one for each Busy attempt; one for each yield; one for each release in a
 -- rollback
@@ -256,4 +256,4 @@ abbrev pub LocksBoundaries : Build → Type 0
 LocksBoundaries f =
     (w : World) (registry script : List ℕ) (place : ℕ) (held keys grants : List ℕ)
     → let k = acquire_locks registry script place held keys grants in
-    Passes w k → BoundariesAdd (f w k).seen.1.counts (spins_in (f w k).log) (rolled_back (answer_in_lem (f w k)))
+    Passes w k → BoundariesAdd (f w k).seen.1.counts (spins_in (f w k).log) (rolled_back (answer_in (f w k)))

@@ -20,7 +20,7 @@ use Rattle.types.specs.declared.Reason.{Reason}
 use Rattle.laws.specs.Crew.{total_append}
 use Rattle.history.specs.World.{World}
 use Rattle.history.specs.Items.{Says, perform, acquire_bucket, drop_lease, environment}
-use Rattle.history.specs.Statements.{answer_in_lem}
+use Rattle.history.specs.Statements.{answer_in}
 use Rattle.history.specs.Judged.{performed, made_so}
 use Rattle.history_exact.specs.Attempts.{Ends, no_cell, waited, held, not_takable, poisoned, late, granted, ◌and_then◌, spin, yield, Pause, only_spins, also_yields, Attempts, all_busy, the_last, one_busy, locking, between, GivesBack, all_back, one_back, KeyByKey, all_locked, one_locked, one_refused, spins_in, BoundariesAdd, BucketBoundaries, rolled_back, LocksBoundaries}
 use Rattle.history_exact.specs.Retried.{spins_append, boundary_still, attempt_one}
@@ -72,16 +72,16 @@ ends_few (granted l) = omega arith
 
 -- what an attempt and a boundary count
 record AttemptCounts (m : Made (World × Says)) : Type 0 where
-  one : m.seen.1.counts.attempts ≡ 1
-  few : m.seen.1.counts.boundaries ≤ 3
-  none : m.seen.1.counts.yields ≡ 0
-  calm : spins_in m.log ≡ 0
+  pub one : m.seen.1.counts.attempts ≡ 1
+  pub few : m.seen.1.counts.boundaries ≤ 3
+  pub none : m.seen.1.counts.yields ≡ 0
+  pub calm : spins_in m.log ≡ 0
 
 record BoundaryCounts (m : Made (World × Says)) : Type 0 where
-  no_attempt : m.seen.1.counts.attempts ≡ 0
-  one : m.seen.1.counts.boundaries ≡ 1
-  none : m.seen.1.counts.yields ≡ 0
-  calm : spins_in m.log ≡ 0
+  pub no_attempt : m.seen.1.counts.attempts ≡ 0
+  pub one : m.seen.1.counts.boundaries ≡ 1
+  pub none : m.seen.1.counts.yields ≡ 0
+  pub calm : spins_in m.log ≡ 0
 
 attempt_adds : {m : Made (World × Says)} → AttemptCounts m → Adds 0 m
 unfolding total
@@ -162,10 +162,10 @@ unfolding spins_in
 drop_adds w l = performed (Adds 0) w (drop_lease l) (λ r. adds_none) (λ _. adds_none)
 
 -- a boundary that was not refused
-bound_adds : (w : World) (script : List ℕ) (place : ℕ) (words : List ℕ) → answer_in_lem (perform w (environment script place words)) ≡ Done
+bound_adds : (w : World) (script : List ℕ) (place : ℕ) (words : List ℕ) → answer_in (perform w (environment script place words)) ≡ Done
     → Adds 1 (perform w (environment script place words))
 bound_adds w script place words =
-    performed (λ m. answer_in_lem m ≡ Done → Adds 1 m) w (environment script place words) (λ r a. let z : ◌≡◌ {A = ℕ} 0 1 = cc in absurd (omega arith))
+    performed (λ m. answer_in m ≡ Done → Adds 1 m) w (environment script place words) (λ r a. let z : ◌≡◌ {A = ℕ} 0 1 = cc in absurd (omega arith))
     (λ _ _. boundary_adds (bounding script words w place) refl (omega (arith, (boundary_counts script words w place).calm)))
 
 module _ (boot : ℕ) (registry script words keys grants : List ℕ) where
@@ -185,11 +185,11 @@ module _ (boot : ℕ) (registry script words keys grants : List ℕ) where
       (adds_then (bounds ls v place) n (bound_adds v script place (words ++ words_of boot ls) b) (back_adds rest)))
 
   keys_add : {p : ℕ} {taken : List Hold} {w : World} {place : ℕ} {m : Made (World × Says)} → length taken ≡ p
-      → KeyByKey perform boot registry script words keys grants p taken w place m → Adds (rolled_back (answer_in_lem m)) m
+      → KeyByKey perform boot registry script words keys grants p taken w place m → Adds (rolled_back (answer_in m)) m
   unfolding spins_in
   keys_add z (all_locked e) = adds_none
   keys_add z (one_locked {p = p} {taken = taken} {w = w} {place = place} {n = n} l b fine a rest) =
-      subst (λ k. Adds k (locks p taken w place and_then n)) (zero-add (rolled_back (answer_in_lem n)))
+      subst (λ k. Adds k (locks p taken w place and_then n)) (zero-add (rolled_back (answer_in n)))
       (adds_then (locks p taken w place) n (key_adds w registry script place (words ++ words_of boot taken) (binding_at keys p) (bucket_at keys p))
       (keys_add (omega (arith, length-append taken (l ∷ []))) rest))
   keys_add z (one_refused {p = p} {taken = taken} {w = w} {place = place} {n = n} r b fine a rest) =

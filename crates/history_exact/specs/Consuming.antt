@@ -8,7 +8,7 @@ use Rattle.types.specs.declared.Hold.{Hold}
 use Rattle.history.specs.World.{World, now, Lawful, Legal}
 use Rattle.history.proofs.Logs.{now_append, lawful_split}
 use Rattle.history_exact.specs.Statements.{Stepping, dropped, ends, looks, performed}
-use Rattle.history_exact.specs.Script.{Boundary, at_end_lem, at_five, one_step, attempts_one, yields_once, spins, Consumed, at_rest, counts, takes, gives_up, boundary}
+use Rattle.history_exact.specs.Script.{Boundary, at_end, at_five, one_step, attempts_one, yields_once, spins, Consumed, at_rest, counts, takes, gives_up, boundary}
 
 -- one behind the other
 pub follow : {Own : World → Event → Type 0} {script : List ℕ} {ps rs ts : List Hold} {p d x y q c : ℕ} {w u v : World} {es fs : List Event}
@@ -32,7 +32,7 @@ step_now (dropped i j n) = refl
 module _ {script : List ℕ} where
   -- the place never goes back
   pub boundary_rises : {ps : List Hold} {p d q c : ℕ} {w v : World} {es : List Event} → Boundary script ps p d w q c v es → p ≤ q
-  boundary_rises (at_end_lem i) = omega arith
+  boundary_rises (at_end i) = omega arith
   boundary_rises (at_five i k) = omega arith
   boundary_rises (one_step i k s b) = omega (arith, boundary_rises b)
 
@@ -45,7 +45,7 @@ module _ {script : List ℕ} where
 
   -- and never passes the end
   boundary_inside : {ps : List Hold} {p d q c : ℕ} {w v : World} {es : List Event} → Boundary script ps p d w q c v es → p ≤ steps_in script → q ≤ steps_in script
-  boundary_inside (at_end_lem i) l = l
+  boundary_inside (at_end i) l = l
   boundary_inside (at_five i k) l = omega arith
   boundary_inside (one_step i k s b) l = boundary_inside b (omega arith)
 
@@ -58,7 +58,7 @@ module _ {script : List ℕ} where
 
   -- the worlds are what the events make of the first
   pub boundary_now : {ps : List Hold} {p d q c : ℕ} {w v : World} {es : List Event} → Boundary script ps p d w q c v es → v ≡ now w es
-  boundary_now (at_end_lem i) = refl
+  boundary_now (at_end i) = refl
   boundary_now (at_five i k) = refl
   boundary_now {w = w} (one_step {es = es} {fs = fs} i k s b) =
       boundary_now b ∙ ap (λ (x : World). now x fs) (step_now s) ∙ sym (now_append w es fs)

@@ -37,8 +37,8 @@ use Rattle.choice.specs.Pick.{if_both}
 use Rattle.laws.specs.Lists.{words_back}
 use Rattle.history.specs.World.{World}
 use Rattle.history.specs.Tests.{differ, if_cases}
-use Rattle.history.proofs.Steps.{With, world_at, of_flow, of_locked, of_run, of_tried, of_took}
-use Rattle.history_exact.specs.Script.{Boundary, at_end_lem, at_five, one_step, attempts_one, yields_once, spins, Consumed, at_rest, counts, takes, gives_up, boundary}
+use Rattle.history.specs.Steps.{With, world_at, of_flow, of_locked, of_run, of_tried, of_took}
+use Rattle.history_exact.specs.Script.{Boundary, at_end, at_five, one_step, attempts_one, yields_once, spins, Consumed, at_rest, counts, takes, gives_up, boundary}
 use Rattle.history_exact.specs.ForeignSteps.{step_is}
 use Rattle.history_exact.specs.Consuming.{follow}
 
@@ -70,7 +70,7 @@ module _ (h : Head) (script : List ℕ) where
 
   steps_bounded : (left : ℕ) (ps : List Hold) (f : Flow) (t g : List ℕ) → left ≡ steps_in script - f.place → Bounded ps f t g (run_steps_of left (given h script ps) f t g)
   unfolding run_steps_of
-  steps_bounded zero ps f t g l = let i : steps_in script ≤ f.place = omega arith in at_end_lem i
+  steps_bounded zero ps f t g l = let i : steps_in script ≤ f.place = omega arith in at_end i
   steps_bounded (suc left) ps f t g l =
       let i : f.place < steps_in script = omega arith in
       let kind = kind_at script f.place in

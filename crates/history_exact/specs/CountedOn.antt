@@ -23,7 +23,7 @@ use Rattle.types.specs.declared.Run.{Run}
 use Rattle.types.specs.declared.Take.{Take}
 use Rattle.types.specs.declared.Take.TheVariants as taking
 use Rattle.types.specs.declared.Tried.{Tried}
-use Rattle.history.proofs.Steps.{With}
+use Rattle.history.specs.Steps.{With}
 
 -- ---- counted on
 

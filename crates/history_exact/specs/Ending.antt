@@ -25,8 +25,9 @@ use Rattle.choice.specs.Pick.{if_both}
 use Rattle.history.specs.Judged.{made_so}
 use Rattle.history.specs.World.{caller_releases}
 use Rattle.history.specs.Items.{perform, transactional}
-use Rattle.history.proofs.Steps.{With}
-use Rattle.history.proofs.Rollback.{Foreigner, Every, end, also, boundary_foreign, still_then}
+use Rattle.history.specs.Steps.{With}
+use Rattle.history.specs.Rollback.{Foreigner}
+use Rattle.history.proofs.Rollback.{Every, end, also, boundary_foreign, still_then}
 use Rattle.history_exact.specs.Attempts.{Ends, Ending, AttemptEnds, caller_takes, no_cell, waited, held, not_takable, poisoned, late, granted}
 
 -- what follows a boundary's log is all that the caller takes

@@ -16,7 +16,7 @@ use Rattle.types.specs.declared.Stepped.{Stepped}
 use Rattle.choice.specs.Pick.{both}
 use Rattle.history.specs.World.{World}
 use Rattle.history.specs.Tests.{differ, is_free_state, free_words, if_cases}
-use Rattle.history.proofs.Steps.{With, world_at, of_step}
+use Rattle.history.specs.Steps.{With, world_at, of_step}
 use Rattle.history_exact.specs.Statements.{Allowed, Asks, Stepping, dropped, looks, release_it, set_health, set_waiters_lem, take_a_cell, ends, performed}
 
 -- only kinds 1 to 4 ask for anything

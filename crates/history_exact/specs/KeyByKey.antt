@@ -31,17 +31,20 @@ use Rattle.laws.specs.Shape.{shaped}
 use Rattle.laws.specs.Checks.{not_stale}
 use Rattle.history.specs.World.{World, Live}
 use Rattle.history.specs.Items.{Says, says, perform, acquire_bucket, acquire_locks, environment, drop_lease}
-use Rattle.history.specs.Statements.{answer_in_lem, world_in}
+use Rattle.history.specs.Statements.{answer_in, world_in}
 use Rattle.history.specs.Tests.{In, in_left, in_right, in_take, in_index}
 use Rattle.history.specs.Events.{Fit, lives}
-use Rattle.history.proofs.Logs.{Kept, nothing, event, kept_live, kept_next, weaken}
+use Rattle.history.specs.Logs.{Kept}
+use Rattle.history.proofs.Logs.{nothing, event, kept_live, kept_next, weaken}
 use Rattle.history.specs.Judged.{clear_front, clear_back, made_so}
 use Rattle.history.specs.HeldLists.{clear_live}
-use Rattle.history.proofs.Steps.{With, world_at, of_run, of_tried, Won, won, none_yet_lem, no_more, boundary_kept, retry_kept}
-use Rattle.history.proofs.Many.{Held, of_locks, one_more}
+use Rattle.history.specs.Steps.{With, world_at, of_run, of_tried, Won, won, none_yet_lem, no_more}
+use Rattle.history.proofs.Steps.{boundary_kept, retry_kept}
+use Rattle.history.specs.Many.{Held, of_locks}
+use Rattle.history.proofs.Many.{one_more}
 use Rattle.history_exact.specs.Statements.{Passes}
 use Rattle.history_exact.specs.Script.{acquire_bucket_has, environment_has, place_in}
-use Rattle.history_exact.specs.Attempts.{added_up, ◌and_then◌, locking, dropping, between, GivesBack, all_back, one_back, refused_at_lem, KeyByKey, all_locked, one_locked, one_refused, LocksAsCalls, key_at}
+use Rattle.history_exact.specs.Attempts.{added_up, ◌and_then◌, locking, dropping, between, GivesBack, all_back, one_back, refused_at, KeyByKey, all_locked, one_locked, one_refused, LocksAsCalls, key_at}
 use Rattle.history_exact.specs.Passing.{boundary_on, divides, holding_more, in_script, key_passes, leases_append}
 use Rattle.history_exact.specs.Passing as passing
 use Rattle.history_exact.specs.ScriptFacts.{place_goes}
@@ -91,34 +94,34 @@ module _ (h : Head) (registry script held keys grants : List ℕ) where
   bounds = between perform h.boot registry script held keys grants
 
   locked_as : {p : ℕ} {taken : List Hold} {w : World} {place : ℕ} {x n : Made (World × Says)} (l : Hold) → p < count_in keys → Passes w (key_at perform h.boot registry script held keys grants p taken place) → locks_it p taken w place ≡ x
-      → answer_in_lem x ≡ Granted (lease_under h.boot l) → Goes (p + 1) (taken ++ (l ∷ [])) (world_in x) (place_in x) n → Goes p taken w place (x and_then n)
+      → answer_in x ≡ Granted (lease_under h.boot l) → Goes (p + 1) (taken ++ (l ∷ [])) (world_in x) (place_in x) n → Goes p taken w place (x and_then n)
   locked_as {p} {taken} {w} {place} {x} {n} l b fine q =
-      subst (λ (y : Made (World × Says)). answer_in_lem y ≡ Granted (lease_under h.boot l) → Goes (p + 1) (taken ++ (l ∷ [])) (world_in y) (place_in y) n → Goes p taken w place (y and_then n)) q
+      subst (λ (y : Made (World × Says)). answer_in y ≡ Granted (lease_under h.boot l) → Goes (p + 1) (taken ++ (l ∷ [])) (world_in y) (place_in y) n → Goes p taken w place (y and_then n)) q
       (one_locked l b fine)
 
   refused_as : {p : ℕ} {taken : List Hold} {w : World} {place : ℕ} {x n : Made (World × Says)} (r : Refusal) → p < count_in keys → Passes w (key_at perform h.boot registry script held keys grants p taken place) → locks_it p taken w place ≡ x
-      → answer_in_lem x ≡ Refused r → Backs taken (world_in x) (place_in x) n → Goes p taken w place (refused_at_lem perform h.boot registry script held keys grants r p (x and_then n))
+      → answer_in x ≡ Refused r → Backs taken (world_in x) (place_in x) n → Goes p taken w place (refused_at perform h.boot registry script held keys grants r p (x and_then n))
   refused_as {p} {taken} {w} {place} {x} {n} r b fine q =
-      subst (λ (y : Made (World × Says)). answer_in_lem y ≡ Refused r → Backs taken (world_in y) (place_in y) n
-      → Goes p taken w place (refused_at_lem perform h.boot registry script held keys grants r p (y and_then n))) q
+      subst (λ (y : Made (World × Says)). answer_in y ≡ Refused r → Backs taken (world_in y) (place_in y) n
+      → Goes p taken w place (refused_at perform h.boot registry script held keys grants r p (y and_then n))) q
       (one_refused r b fine)
 
-  back_as : {ls : List Hold} {w : World} {place : ℕ} {x y n : Made (World × Says)} (l : Hold) → drops_it l w ≡ x → answer_in_lem x ≡ Done
-      → bounds ls (world_in x) place ≡ y → answer_in_lem y ≡ Done → Backs ls (world_in y) (place_in y) n → Backs (ls ++ (l ∷ [])) w place (x and_then (y and_then n))
+  back_as : {ls : List Hold} {w : World} {place : ℕ} {x y n : Made (World × Says)} (l : Hold) → drops_it l w ≡ x → answer_in x ≡ Done
+      → bounds ls (world_in x) place ≡ y → answer_in y ≡ Done → Backs ls (world_in y) (place_in y) n → Backs (ls ++ (l ∷ [])) w place (x and_then (y and_then n))
   back_as {ls} {w} {place} {x} {y} {n} l q =
-      subst (λ (x : Made (World × Says)). answer_in_lem x ≡ Done → bounds ls (world_in x) place ≡ y → answer_in_lem y ≡ Done → Backs ls (world_in y) (place_in y) n
+      subst (λ (x : Made (World × Says)). answer_in x ≡ Done → bounds ls (world_in x) place ≡ y → answer_in y ≡ Done → Backs ls (world_in y) (place_in y) n
       → Backs (ls ++ (l ∷ [])) w place (x and_then (y and_then n))) q
-      (λ a s. subst (λ (y : Made (World × Says)). answer_in_lem y ≡ Done → Backs ls (world_in y) (place_in y) n
+      (λ a s. subst (λ (y : Made (World × Says)). answer_in y ≡ Done → Backs ls (world_in y) (place_in y) n
       → Backs (ls ++ (l ∷ [])) w place (drops_it l w and_then (y and_then n))) s (λ b k. one_back l a refl b k))
 
   -- ---- where a multi-lock stands: the first n of these leases are taken and not given back
 
   record Standing (first : ℕ) (v : World) (place n : ℕ) (ls : List Hold) : Type 0 where
-    passes : Passes v (acquire_locks registry script place held keys grants)
-    own : v.head.boot ≡ h.boot
-    mine : Held v n ls
-    young : (i : ℕ) → i < n → first ≤ (hold_at ls i).serial
-    few : n ≤ count_in keys
+    pub passes : Passes v (acquire_locks registry script place held keys grants)
+    pub own : v.head.boot ≡ h.boot
+    pub mine : Held v n ls
+    pub young : (i : ℕ) → i < n → first ≤ (hold_at ls i).serial
+    pub few : n ≤ count_in keys
 
   -- what the caller held is older
   abbrev Older : ℕ → Type 0
@@ -232,7 +235,7 @@ module _ (h : Head) (registry script held keys grants : List ℕ) where
 
   module _ {first : ℕ} (old : Older first) (p : ℕ) (b : p < count_in keys) (taken : List Hold) (w : World) (place : ℕ) (m : Made (With Tried))
       (fine : Passes w (key_at perform h.boot registry script held keys grants p taken place)) (is : locks_it p taken w place ≡ at_last h m) (st : Standing first (of_tried h m.seen) m.seen.0.run.flow.place (length taken) taken) where
-    rolls_back : (x : Refusal) → answer_in_lem (at_last h m) ≡ Refused x
+    rolls_back : (x : Refusal) → answer_in (at_last h m) ≡ Refused x
         → Goes p taken w place (then_locks m (rollback_of e taken x p m.seen.0.run m.seen.1.0 m.seen.1.1 grants))
     unfolding rollback_of
     rolls_back x a =

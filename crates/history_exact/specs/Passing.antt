@@ -19,7 +19,8 @@ use Rattle.history.specs.World.{World, after_event, now}
 use Rattle.history.specs.Items.{Clear}
 use Rattle.history.specs.Tests.{In, in_either}
 use Rattle.history.specs.Events.{Fit, fits}
-use Rattle.history.proofs.Logs.{Kept, kept_fit, kept_live, arena_now, boot_now}
+use Rattle.history.specs.Logs.{Kept}
+use Rattle.history.proofs.Logs.{kept_fit, kept_live, arena_now, boot_now}
 use Rattle.history.specs.Judged.{clear_front, clear_back, clear_append}
 use Rattle.history.specs.HeldLists.{AllOf, clear_own, live_clear, clear_live}
 

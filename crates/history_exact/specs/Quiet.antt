@@ -26,7 +26,7 @@ use Rattle.types.specs.declared.Took.{Took}
 use Rattle.laws.specs.Words.{waiters_set_cell}
 use Rattle.history.specs.World.{one}
 use Rattle.history.specs.Tests.{Stands, stands, is_free_lem, is_held_lem, is_damaged, if_cases}
-use Rattle.history.proofs.Steps.{With}
+use Rattle.history.specs.Steps.{With}
 
 -- ---- one quiet boundary, and one quiet `try_lock`
 

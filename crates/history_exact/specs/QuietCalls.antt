@@ -24,10 +24,10 @@ use Rattle.laws.specs.Keys.{header_of_key_lem}
 use Rattle.laws.specs.Outcomes.{retry_first}
 use Rattle.history.specs.Judged.{made_so}
 use Rattle.history.specs.World.{World, world_of, Healthy}
-use Rattle.history.specs.Items.{Says, says, perform, cell_of, try_lock_lem, transactional, acquire_bucket}
+use Rattle.history.specs.Items.{Says, says, perform, cell_of, try_lock, transactional, acquire_bucket}
 use Rattle.history.specs.Tests.{if_cases}
-use Rattle.history.proofs.Steps.{With}
-use Rattle.history_exact.specs.Statements.{PerCell, sick_cell, sound_cell, Ready, AcquireBucketExactly, AcquireBucketQuiet, ByKey, Names, Quietly, TransactionalQuiet, TryLockExactly, TryLockQuiet, bad_header_lem, LocksExactly, at_waited, busy_after, failed_after, is_poisoned_lem, at_held, bad_bucket, at_damaged, names, at_spent, at_free}
+use Rattle.history.specs.Steps.{With}
+use Rattle.history_exact.specs.Statements.{PerCell, sick_cell, sound_cell, Ready, AcquireBucketExactly, AcquireBucketQuiet, ByKey, Names, Quietly, TransactionalQuiet, TryLockExactly, TryLockQuiet, bad_header, LocksExactly, at_waited, busy_after, failed_after, is_poisoned_lem, at_held, bad_bucket, at_damaged, names, at_spent, at_free}
 use Rattle.history_exact.specs.Quiet.{QuietLock, was_waited, was_held, was_damaged, was_spent, was_free, was_sick, lock_quiet, yields_in, yields_are, busy_retry}
 
 -- ---- proofs
@@ -61,7 +61,7 @@ sound_row h (sound_cell n y) = y
 
 pub try_lock_quiet : TryLockQuiet perform
 try_lock_quiet w script place held c fine end =
-    subst (PerCell w c place (RowOf w place c)) (sym (ap (λ m. m.seen) (made_so w (try_lock_lem script place held c) fine)))
+    subst (PerCell w c place (RowOf w place c)) (sym (ap (λ m. m.seen) (made_so w (try_lock script place held c) fine)))
     (rw (zero-add (lock_of (given w.head script (holds_of held)) w.head.buckets (flow_of w.head.next place 0) w.table w.health c).seen.0.boundaries)
     at (lock_row w place c (lock_quiet (given w.head script (holds_of held)) w.head.buckets (flow_of w.head.next place 0) w.table w.health c end)))
 
@@ -106,7 +106,7 @@ transactional_quiet w registry script place held binding bucket fine end =
 
     go : {x : Found} → Keyed w.head.headers w.head.buckets w.health registry binding bucket x
         → ByKey w registry binding bucket place Row (said w (attempt_at x (given w.head script (holds_of held)) w.head.buckets (starting w.head place) w.table w.health).seen)
-    go (no_header p) = bad_header_lem p
+    go (no_header p) = bad_header p
     go (sick p q) = is_poisoned_lem p q
     go (no_bucket p q r) = bad_bucket p q r
     go (at_cell p q r) =
@@ -179,7 +179,7 @@ module _ (w : World) (registry script : List ℕ) (place : ℕ) (held : List ℕ
     row h (was_sick u x y z n) l name = absurd (n h)
 
   all_rows : {x : Found} → Keyed w.head.headers w.head.buckets w.health registry binding bucket x → found_is ≡ x → Fits retried
-  all_rows (no_header p) q = stop q refl (bad_header_lem p)
+  all_rows (no_header p) q = stop q refl (bad_header p)
   all_rows (sick p r) q = stop q refl (is_poisoned_lem p r)
   all_rows (no_bucket p r b) q = stop q refl (bad_bucket p r b)
   all_rows (at_cell p r b) q =
@@ -219,8 +219,8 @@ apart_after e = let z : ◌≡◌ {A = ℕ} 0 1 = cc in omega arith
 
 -- what is said for a reason is late, and tells which reason
 record Tells (busy : Reason → Answer) : Type 0 where
-  late : (why : Reason) → Late (busy why)
-  tells : (a b : Reason) → busy a ≡ busy b → a ≡ b
+  pub late : (why : Reason) → Late (busy why)
+  pub tells : (a b : Reason) → busy a ≡ busy b → a ≡ b
 
 module _ {w : World} {place : ℕ} {waiting : Says} {holding : ℕ → Says} {c : ℕ} where
   -- the table says it exactly
@@ -283,7 +283,7 @@ tells_failed = record { late = λ why. at_last why; tells = λ a b e. cc }
 -- a key that names a cell has that cell's row
 pub named_row : {w : World} {registry : List ℕ} {binding bucket place : ℕ} {Row : ℕ → World × Says → Type 0} {x : World × Says}
     → Names w registry binding bucket → ByKey w registry binding bucket place Row x → Row (cell_of w.head.buckets registry binding bucket) x
-named_row n (bad_header_lem p) = absurd (omega (arith, n.0))
+named_row n (bad_header p) = absurd (omega (arith, n.0))
 named_row n (is_poisoned_lem p q) = absurd (q n.1)
 named_row n (bad_bucket p q r) = absurd (omega (arith, n.2))
 named_row n (names p q r y) = y

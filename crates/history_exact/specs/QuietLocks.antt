@@ -23,7 +23,7 @@ use Rattle.laws.specs.Words.{waiters_set_cell, bit_set_other, owner_set_other}
 use Rattle.history.specs.Judged.{made_so}
 use Rattle.history.specs.World.{World, world_of, now}
 use Rattle.history.specs.Items.{Says, says, perform, key_cell, acquire_locks}
-use Rattle.history.proofs.Steps.{With, world_at}
+use Rattle.history.specs.Steps.{With, world_at}
 use Rattle.history_exact.specs.Statements.{LocksQuiet, leases_from, takes_of}
 use Rattle.history_exact.specs.Quiet.{QuietLock, was_waited, was_held, was_damaged, was_spent, was_free, was_sick, lock_quiet}
 use Rattle.history_exact.specs.QuietCalls.{Keyed, no_header, sick, no_bucket, at_cell, keyed, retry_stops, attempt_as}

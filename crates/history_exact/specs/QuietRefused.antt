@@ -35,9 +35,9 @@ use Rattle.laws.specs.Outcomes.{retry_first}
 use Rattle.history.specs.World.{World, world_of, Unreleased, now, Lawful}
 use Rattle.history.specs.Items.{Says, says, acquire_bucket, acquire_locks, perform, key_cell, Call, Clear, rules}
 use Rattle.history.specs.Tests.{state_free, In}
-use Rattle.history.proofs.Logs.{Kept}
+use Rattle.history.specs.Logs.{Kept}
 use Rattle.history.specs.Judged.{past_checks, made_so}
-use Rattle.history.proofs.Steps.{With, world_at}
+use Rattle.history.specs.Steps.{With, world_at}
 use Rattle.history_exact.specs.Statements.{leases_from, LocksRefusedQuiet, takes_of, Names, Unwaited, IsFree}
 use Rattle.history_exact.specs.Passing.{bucket_on, key_passes, in_script}
 use Rattle.history_exact.specs.Quiet.{boundary_quiet, QuietLock, was_waited, was_held, was_damaged, was_spent, was_free, was_sick, taken_back, lock_quiet, yields_in, yields_are, busy_retry}

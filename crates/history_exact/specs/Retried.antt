@@ -44,7 +44,7 @@ use Rattle.history.specs.Judged.{made_so}
 use Rattle.history.specs.World.{World}
 use Rattle.history.specs.Items.{Says, perform, acquire_locks, acquire_bucket}
 use Rattle.history.specs.Tests.{differ, if_cases}
-use Rattle.history.proofs.Steps.{With}
+use Rattle.history.specs.Steps.{With}
 use Rattle.history_exact.specs.Attempts.{BucketRetries, Failed, FailedAt, KeysRetried, LocksRetry, Retries, total_64, Some4096, a_later, this_key, spins_in}
 
 -- ---- no spin in a lock
@@ -162,9 +162,9 @@ pub record One (r : Run) (m : Made (With Tried)) : Type 0 where
   pub other : Else m.seen.0.outcome
 
 record Paused (i : ℕ) (r : Run) (m : Made (With Run)) : Type 0 where
-  one_spin : spins_in m.log ≡ 1
-  no_attempt : m.seen.0.attempts ≡ r.attempts
-  yields_at : m.seen.0.yields + i / 64 ≡ r.yields + (i + 1) / 64
+  pub one_spin : spins_in m.log ≡ 1
+  pub no_attempt : m.seen.0.attempts ≡ r.attempts
+  pub yields_at : m.seen.0.yields + i / 64 ≡ r.yields + (i + 1) / 64
 
 module _ (e : Setting) (buckets : ℕ) (registry : List ℕ) (binding bucket : ℕ) where
   pub attempt_one : (r : Run) (t g : List ℕ) → One r (attempt_of e buckets registry binding bucket r t g)
@@ -218,10 +218,10 @@ pause_one e i r t g =
 -- ---- retrying
 
 record Ran (left i : ℕ) (r : Run) (m : Made (With Tried)) : Type 0 where
-  yields_at : m.seen.0.run.yields + i / 64 ≡ r.yields + (i + spins_in m.log) / 64
-  other : Else m.seen.0.outcome
-  all : is_busy m.seen.0.outcome ≡ true → (spins_in m.log ≡ left) × (m.seen.0.run.attempts ≡ r.attempts + left)
-  fewer : is_busy m.seen.0.outcome ≡ false → (spins_in m.log < left) × (m.seen.0.run.attempts ≡ r.attempts + spins_in m.log + 1)
+  pub yields_at : m.seen.0.run.yields + i / 64 ≡ r.yields + (i + spins_in m.log) / 64
+  pub other : Else m.seen.0.outcome
+  pub all : is_busy m.seen.0.outcome ≡ true → (spins_in m.log ≡ left) × (m.seen.0.run.attempts ≡ r.attempts + left)
+  pub fewer : is_busy m.seen.0.outcome ≡ false → (spins_in m.log < left) × (m.seen.0.run.attempts ≡ r.attempts + spins_in m.log + 1)
 
 module _ (e : Setting) (buckets : ℕ) (registry : List ℕ) (binding bucket : ℕ) where
   retry_ran : (left i : ℕ) (last : Reason) (r : Run) (t g : List ℕ) → Ran left i r (retry_of left i last e buckets registry binding bucket r t g)
@@ -296,8 +296,8 @@ bucket_retries w registry script place held binding bucket fine =
         }
 
 record Backed (r : Run) (m : Made (With Run)) : Type 0 where
-  calm : NoSpins m.log
-  same : m.seen.0.yields ≡ r.yields
+  pub calm : NoSpins m.log
+  pub same : m.seen.0.yields ≡ r.yields
 
 back_still : (n : ℕ) (e : Setting) (ls : List Hold) (r : Run) (t g : List ℕ) → Backed r (give_back_of n e ls r t g)
 unfolding give_back_of spins_in

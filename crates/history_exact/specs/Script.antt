@@ -10,16 +10,16 @@ use Rattle.types.specs.declared.Answer.{Answer}
 use Rattle.types.specs.declared.Answer.TheVariants.{Done, Busy, Refused, Cell, Granted, AllGranted, RefusedAt}
 use Rattle.types.specs.declared.Hold.{Hold}
 use Rattle.history.specs.World.{World, after_event, now, Legal}
-use Rattle.history.specs.Items.{Build, Call, Says, environment, place_of, script_of_lem, try_lock_lem, held_of, transactional, acquire_bucket, given_up, release_all_lem, acquire_locks, acquire_sorted}
+use Rattle.history.specs.Items.{Build, Call, Says, environment, place_of, script_of, try_lock, held_of, transactional, acquire_bucket, given_up, release_all, acquire_locks, acquire_sorted}
 use Rattle.history_exact.specs.Statements.{Passes, Stepping}
 
 -- the calls with a script
 pub data Scripted : Call → Type 0 where
   environment_has : (script : List ℕ) (place : ℕ) (held : List ℕ) → Scripted (environment script place held)
-  try_lock_has : (script : List ℕ) (place : ℕ) (held : List ℕ) (c : ℕ) → Scripted (try_lock_lem script place held c)
+  try_lock_has : (script : List ℕ) (place : ℕ) (held : List ℕ) (c : ℕ) → Scripted (try_lock script place held c)
   transactional_has : (registry script : List ℕ) (place : ℕ) (held : List ℕ) (binding bucket : ℕ) → Scripted (transactional registry script place held binding bucket)
   acquire_bucket_has : (registry script : List ℕ) (place : ℕ) (held : List ℕ) (binding bucket : ℕ) → Scripted (acquire_bucket registry script place held binding bucket)
-  release_all_has : (script : List ℕ) (place : ℕ) (leases : List ℕ) → Scripted (release_all_lem script place leases)
+  release_all_has : (script : List ℕ) (place : ℕ) (leases : List ℕ) → Scripted (release_all script place leases)
   acquire_locks_has : (registry script : List ℕ) (place : ℕ) (held keys grants : List ℕ) → Scripted (acquire_locks registry script place held keys grants)
   acquire_sorted_has : (registry script : List ℕ) (place : ℕ) (held keys grants : List ℕ) → Scripted (acquire_sorted registry script place held keys grants)
 
@@ -32,7 +32,7 @@ place_in m = m.seen.1.place
 -- one boundary, from (p, d, w) to (q, c, v), while `ps` are protected; `es` is what its steps leave in the log
 pub data Boundary (script : List ℕ) (ps : List Hold) : (p d : ℕ) (w : World) (q c : ℕ) (v : World) → List Event → Type 0 where
   -- "past the end it is quiet"
-  at_end_lem : {p d : ℕ} {w : World} → steps_in script ≤ p → Boundary script ps p d w p d w []
+  at_end : {p d : ℕ} {w : World} → steps_in script ≤ p → Boundary script ps p d w p d w []
   -- "up to and including the next 5"
   at_five : {p d : ℕ} {w : World} → p < steps_in script → kind_at script p ≡ 5 → Boundary script ps p d w (p + 1) d w []
   -- one step: performed exactly if it is legal now, else dropped and counted (`Stepping`)
@@ -87,7 +87,7 @@ as_taken w (acquire_sorted_has registry script place held keys grants) b = words
 -- known of the caller's own takes and releases
 abbrev pub Consumes : (World → Event → Type 0) → World → {k : Call} → Scripted k → Made (World × Says) → Type 0
 Consumes Own w {k} s m =
-    Consumed Own (script_of_lem k) (held_of k ++ given_up k) (place_of k) 0 w
+    Consumed Own (script_of k) (held_of k ++ given_up k) (place_of k) 0 w
     (held_of k ++ handed m.seen.1.answer (as_taken w s m.seen.1.grants)) m.seen.1.place m.seen.1.counts.dropped m.seen.0 m.log
 
 abbrev pub ScriptConsumed : Build → Type 0
@@ -98,7 +98,7 @@ ScriptConsumed f = (w : World) (k : Call) (s : Scripted k) → Passes w k → Co
 abbrev pub PlaceGoes : Build → Type 0
 PlaceGoes f =
     (w : World) (k : Call) → Scripted k → Passes w k
-    → (place_of k ≤ place_in (f w k)) × (place_in (f w k) ≤ steps_in (script_of_lem k))
+    → (place_of k ≤ place_in (f w k)) × (place_in (f w k) ≤ steps_in (script_of k))
 
 -- ---- each step has its turn
 
@@ -116,7 +116,7 @@ pub record Turn (script : List ℕ) (w : World) (log : List Event) (x : ℕ) : T
 abbrev pub EachHasItsTurn : Build → Type 0
 EachHasItsTurn f =
     (w : World) (k : Call) → Scripted k → Passes w k
-    → (x : ℕ) → place_of k ≤ x → x < place_in (f w k) → Turn (script_of_lem k) w (f w k).log x
+    → (x : ℕ) → place_of k ≤ x → x < place_in (f w k) → Turn (script_of k) w (f w k).log x
 
 -- ---- each event by script is the work of a step between the two places
 
@@ -138,7 +138,7 @@ Points script p q (added m c v) = Unit {0}
 abbrev pub ByScriptOnly : Build → Type 0
 ByScriptOnly f =
     (w : World) (k : Call) (e : Event) (before after : List Event) → Scripted k → Passes w k
-    → (f w k).log ≡ before ++ (e ∷ after) → Points (script_of_lem k) (place_of k) (place_in (f w k)) e
+    → (f w k).log ≡ before ++ (e ∷ after) → Points (script_of k) (place_of k) (place_in (f w k)) e
 
 -- ---- the dropped steps, counted from outside: a mark for each step between the two places, 1 where its turn dropped it
 
@@ -151,4 +151,4 @@ pub record Tally (script : List ℕ) (w : World) (log : List Event) (p q d c : �
 abbrev pub DroppedAre : Build → Type 0
 DroppedAre f =
     (w : World) (k : Call) → Scripted k → Passes w k
-    → Tally (script_of_lem k) w (f w k).log (place_of k) (place_in (f w k)) 0 (f w k).seen.1.counts.dropped
+    → Tally (script_of k) w (f w k).log (place_of k) (place_in (f w k)) 0 (f w k).seen.1.counts.dropped

@@ -14,16 +14,16 @@ use Rattle.model.specs.Crew.{total}
 use Rattle.types.specs.declared.Hold.{Hold}
 use Rattle.laws.specs.Crew.{total_append}
 use Rattle.history.specs.World.{World, now, Legal}
-use Rattle.history.specs.Items.{Call, script_of_lem, place_of, perform, Clear, rules}
+use Rattle.history.specs.Items.{Call, script_of, place_of, perform, Clear, rules}
 use Rattle.history.proofs.Logs.{now_append}
 use Rattle.history.proofs.Rollback.{Every, end, also, every_append, every_map, every_at}
 use Rattle.history_exact.specs.Statements.{Asks, dropped, ends, looks, performed, release_it, set_health, set_waiters_lem, take_a_cell, Stepping}
-use Rattle.history_exact.specs.Script.{Scripted, environment_has, try_lock_has, transactional_has, acquire_bucket_has, release_all_has, acquire_locks_has, acquire_sorted_has, place_in, Boundary, at_end_lem, at_five, one_step, attempts_one, yields_once, spins, Consumed, at_rest, counts, takes, gives_up, boundary, PlaceGoes, Turn, EachHasItsTurn, Points, ByScriptOnly, Tally, DroppedAre}
+use Rattle.history_exact.specs.Script.{Scripted, environment_has, try_lock_has, transactional_has, acquire_bucket_has, release_all_has, acquire_locks_has, acquire_sorted_has, place_in, Boundary, at_end, at_five, one_step, attempts_one, yields_once, spins, Consumed, at_rest, counts, takes, gives_up, boundary, PlaceGoes, Turn, EachHasItsTurn, Points, ByScriptOnly, Tally, DroppedAre}
 use Rattle.history_exact.specs.Passing.{in_script}
 use Rattle.history_exact.specs.Consuming.{boundary_rises, place_rises, place_inside, boundary_now, step_now}
 use Rattle.history_exact.specs.ConsumingCalls.{script_consumed}
 
-fits : (w : World) {k : Call} → Scripted k → Clear (rules w k) → place_of k ≤ steps_in (script_of_lem k)
+fits : (w : World) {k : Call} → Scripted k → Clear (rules w k) → place_of k ≤ steps_in (script_of k)
 unfolding script_rules lock_rules bucket_rules release_rules locks_rules
 fits w (environment_has script place held) c = in_script script place c.1.1.0
 fits w (try_lock_has script place held d) c = in_script script place c.1.1.0
@@ -66,7 +66,7 @@ module _ {script : List ℕ} {x : ℕ} where
       }
 
   boundary_turn : {ps : List Hold} {p d q c : ℕ} {w v : World} {es : List Event} → Boundary script ps p d w q c v es → p ≤ x → x < q → Turn script w es x
-  boundary_turn (at_end_lem i) l m = absurd (omega arith)
+  boundary_turn (at_end i) l m = absurd (omega arith)
   boundary_turn {ps} {p} {w = w} (at_five i k) l m =
       let z : p ≡ x = omega arith in
       record { before = []; own = []; after = []; protected = ps; leaves = w; lost = 0; parts = refl; turn = ends (subst (λ y. kind_at script y ≡ 5) z k) }
@@ -137,7 +137,7 @@ module _ (script : List ℕ) where
   step_points p (dropped i j n) = also step_dropped (p, omega arith, omega arith) end
 
   boundary_points : {ps : List Hold} {p d q c : ℕ} {w v : World} {es : List Event} → Boundary script ps p d w q c v es → Every (Points script p q) es
-  boundary_points (at_end_lem i) = end
+  boundary_points (at_end i) = end
   boundary_points (at_five i k) = end
   boundary_points {p = p} (one_step {q = q} {es = es} {fs = fs} i k s b) =
       every_append (all_wider (omega arith) (boundary_rises b) (step_points p s)) (all_wider (omega arith) (omega arith) (boundary_points b))
@@ -154,7 +154,7 @@ module _ (script : List ℕ) where
 
 pub by_script_only : ByScriptOnly perform
 by_script_only w k e before after s fine q =
-    every_at e before after (subst (Every (Points (script_of_lem k) (place_of k) (place_in (perform w k)))) q (points (script_of_lem k) (script_consumed w k s fine)))
+    every_at e before after (subst (Every (Points (script_of k) (place_of k) (place_in (perform w k)))) q (points (script_of k) (script_consumed w k s fine)))
 
 module _ {script : List ℕ} where
   no_marks : {w : World} {p d : ℕ} → Tally script w [] p p d d
@@ -201,7 +201,7 @@ module _ {script : List ℕ} where
           (record { before = []; own = es; after = []; protected = ps; leaves = v; lost = x; parts = sym (append-nil es); turn = s }, refl)
 
   boundary_tally : {ps : List Hold} {p d q c : ℕ} {w v : World} {es : List Event} → Boundary script ps p d w q c v es → Tally script w es p q d c
-  boundary_tally (at_end_lem i) = no_marks
+  boundary_tally (at_end i) = no_marks
   boundary_tally {ps = ps} {p = p} {d = d} {w = w} (at_five i k) = rw (add-zero d) at (one_mark {w = w} {v = w} {ps = ps} {p = p} {d = d} (ends k))
   boundary_tally (one_step {es = es} {fs = fs} i k s b) = tally_then es fs (step_now s) (one_mark s) (boundary_tally b)
 

@@ -18,8 +18,8 @@ use Rattle.types.specs.declared.Reason.TheVariants as reason
 use Rattle.types.specs.declared.Refusal.{Refusal}
 use Rattle.types.specs.declared.Refusal.TheVariants.{BadHeader, Damaged, InvalidBucket, SerializationFailure, SerialsSpent, Poisoned}
 use Rattle.history.specs.World.{World, Healthy, Legal, now, after_event, world_of}
-use Rattle.history.specs.Items.{Build, Says, Call, acquire_bucket, acquire_locks, says, transactional, try_lock_lem, key_cell, cell_of, Clear, rules}
-use Rattle.history.specs.Statements.{answer_in_lem}
+use Rattle.history.specs.Items.{Build, Says, Call, acquire_bucket, acquire_locks, says, transactional, try_lock, key_cell, cell_of, Clear, rules}
+use Rattle.history.specs.Statements.{answer_in}
 
 -- the call passes its checks: none of document 01's table applies to what it was given
 abbrev pub Passes : World → Call → Type 0
@@ -99,7 +99,7 @@ pub data PerCell (w : World) (c place : ℕ) (Row : World × Says → Type 0) : 
 -- is healthy at the first reading then, and nothing happens before the second
 
 pub data ByKey (w : World) (registry : List ℕ) (binding bucket place : ℕ) (Row : ℕ → World × Says → Type 0) : World × Says → Type 0 where
-  bad_header_lem : w.head.headers ≤ get_or registry binding 0
+  bad_header : w.head.headers ≤ get_or registry binding 0
       → ByKey w registry binding bucket place Row (w, says (Refused (BadHeader (get_or registry binding 0))) (counts_of 1 0 0 0) place [])
   is_poisoned_lem : get_or registry binding 0 < w.head.headers → (get_or w.health (get_or registry binding 0) 0 ≡ 0 → ⊥)
       → ByKey w registry binding bucket place Row (w, says (Refused (Poisoned (get_or registry binding 0))) (counts_of 1 0 0 0) place [])
@@ -120,7 +120,7 @@ failed_after why place boundaries = says (Refused (SerializationFailure why)) (c
 abbrev pub TryLockQuiet : Build → Type 0
 TryLockQuiet f =
     (w : World) (script : List ℕ) (place : ℕ) (held : List ℕ) (c : ℕ)
-    → let k = try_lock_lem script place held c in
+    → let k = try_lock script place held c in
     Passes w k → steps_in script ≤ place
     → PerCell w c place (Quietly w place (busy_after reason.Before place 1) (λ s. busy_after (reason.Held s) place 2) c) (f w k).seen
 
@@ -160,10 +160,10 @@ pub record LocksExactly (w : World) (c : ℕ) (Must : Type 0) (busy : Reason →
 abbrev pub TryLockExactly : Build → Type 0
 TryLockExactly f =
     (w : World) (script : List ℕ) (place : ℕ) (held : List ℕ) (c : ℕ)
-    → let k = try_lock_lem script place held c in
+    → let k = try_lock script place held c in
     Passes w k → steps_in script ≤ place
-    → LocksExactly w c (Ready w c × Healthy w c) (λ why. Busy why) (answer_in_lem (f w k))
-    × ((header : ℕ) → (answer_in_lem (f w k) ≡ Refused (Poisoned header)) ↔ (Ready w c × (Healthy w c → ⊥) × (header ≡ header_of w.head.buckets c)))
+    → LocksExactly w c (Ready w c × Healthy w c) (λ why. Busy why) (answer_in (f w k))
+    × ((header : ℕ) → (answer_in (f w k) ≡ Refused (Poisoned header)) ↔ (Ready w c × (Healthy w c → ⊥) × (header ≡ header_of w.head.buckets c)))
 
 -- granted exactly if the cell is ready; 11 exactly if it is waited for or held, with that as its reason
 abbrev pub AcquireBucketExactly : Build → Type 0
@@ -171,7 +171,7 @@ AcquireBucketExactly f =
     (w : World) (registry script : List ℕ) (place : ℕ) (held : List ℕ) (binding bucket : ℕ)
     → let k = acquire_bucket registry script place held binding bucket in
     Passes w k → steps_in script ≤ place → Names w registry binding bucket
-    → let c = cell_of w.head.buckets registry binding bucket in LocksExactly w c (Ready w c) (λ why. Refused (SerializationFailure why)) (answer_in_lem (f w k))
+    → let c = cell_of w.head.buckets registry binding bucket in LocksExactly w c (Ready w c) (λ why. Refused (SerializationFailure why)) (answer_in (f w k))
 
 -- ---- multi-lock, its script at its end: keys that name different ready cells are all granted, with the next serials in key order
 

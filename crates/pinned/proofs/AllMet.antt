@@ -12,7 +12,7 @@ use Rattle.types.specs.declared.Lease.{Lease}
 use Rattle.types.specs.declared.Reason.TheVariants as reason
 use Rattle.history.specs.Judged.{refused_so, made_so}
 use Rattle.history.specs.World.{World}
-use Rattle.history.specs.Items.{Build, Says, rules, Call, try_acquire_lem, drop_lease, read_permission, competing_acquire, release_then_handoff, foreign_release, drop_preserving, acquire_preserving, environment, try_lock_lem, transactional, acquire_bucket, release_all_lem, acquire_locks, acquire_sorted, crew, crew_at_work_lem, place_of, buffer, perform, Clear}
+use Rattle.history.specs.Items.{Build, Says, rules, Call, try_acquire, drop_lease, read_permission, competing_acquire, release_then_handoff, foreign_release, drop_preserving, acquire_preserving, environment, try_lock, transactional, acquire_bucket, release_all, acquire_locks, acquire_sorted, crew, crew_at_work, place_of, buffer, perform, Clear}
 use Rattle.pinned.specs.Words.{holds, words, logged, counted, says}
 use Rattle.pinned.specs.Checks.{checks}
 use Rattle.pinned.specs.Steps.{at, gathered}
@@ -24,7 +24,7 @@ use Rattle.pinned.proofs.SortedCall.{sorted_call_is}
 use Rattle.pinned.specs.Same.{Same, is_same, is_both, if_same, with_same, noting_same, seen_same, takes_same, runs_same, locks_same, turns_same, asks_same, keys_same, shared_same, sorted_same, joined_same, retries_same}
 
 beyond_is : (w : World) (k : Call) → Clear (rules w k) → Beyond perform w k (perform w k)
-beyond_is w (try_acquire_lem c) k = acquire_is w c k
+beyond_is w (try_acquire c) k = acquire_is w c k
 beyond_is w (drop_lease l) k = drop_is w l k
 beyond_is w (read_permission l) k = made_so w (read_permission l) k
 beyond_is w (competing_acquire l) k = competing_is w l k
@@ -33,18 +33,18 @@ beyond_is w (foreign_release held l) k = between_is w held l k
 beyond_is w (drop_preserving held l) k = drop_held_is w held l k
 beyond_is w (acquire_preserving held c) k = acquire_held_is w held c k
 beyond_is w (environment script place held) k = environment_is w script place held k
-beyond_is w (try_lock_lem script place held c) k = try_lock_is w script place held c k
+beyond_is w (try_lock script place held c) k = try_lock_is w script place held c k
 beyond_is w (transactional registry script place held binding bucket) k = transactional_is w registry script place held binding bucket k
 beyond_is w (acquire_bucket registry script place held binding bucket) k = bucket_is w registry script place held binding bucket k
-beyond_is w (release_all_lem script place leases) k = release_all_is w script place leases k
+beyond_is w (release_all script place leases) k = release_all_is w script place leases k
 beyond_is w (acquire_locks registry script place held keys grants) k = locks_is w registry script place held keys grants k
 beyond_is w (acquire_sorted registry script place held keys grants) k = sorted_call_is w registry script place held keys grants k
 beyond_is w (crew counts cells turns) k = crew_is w counts cells turns k
-beyond_is w (crew_at_work_lem counts cells turns counters) k = work_is w counts cells turns counters k
+beyond_is w (crew_at_work counts cells turns counters) k = work_is w counts cells turns counters k
 
 -- what a call was given, as crate `history` reads it off the call
 given_same : (k : Call) → (place_of k ≡ (as_given k).0) × (buffer k ≡ (as_given k).1)
-given_same (try_acquire_lem c) = (refl, refl)
+given_same (try_acquire c) = (refl, refl)
 given_same (drop_lease l) = (refl, refl)
 given_same (read_permission l) = (refl, refl)
 given_same (competing_acquire l) = (refl, refl)
@@ -53,14 +53,14 @@ given_same (foreign_release held l) = (refl, refl)
 given_same (drop_preserving held l) = (refl, refl)
 given_same (acquire_preserving held c) = (refl, refl)
 given_same (environment script place held) = (refl, refl)
-given_same (try_lock_lem script place held c) = (refl, refl)
+given_same (try_lock script place held c) = (refl, refl)
 given_same (transactional registry script place held binding bucket) = (refl, refl)
 given_same (acquire_bucket registry script place held binding bucket) = (refl, refl)
-given_same (release_all_lem script place leases) = (refl, refl)
+given_same (release_all script place leases) = (refl, refl)
 given_same (acquire_locks registry script place held keys grants) = (refl, refl)
 given_same (acquire_sorted registry script place held keys grants) = (refl, refl)
 given_same (crew counts cells turns) = (refl, refl)
-given_same (crew_at_work_lem counts cells turns counters) = (refl, refl)
+given_same (crew_at_work counts cells turns counters) = (refl, refl)
 
 pub meets : Meets perform
 meets =
@@ -95,8 +95,8 @@ module _ (a b : Build) (first_meets : Meets a) (then_meets : Meets b) where
         | inr c ↦ f (first_meets.beyond w k c) (then_meets.beyond w k c)
       ]
 
-  acquire : (w : World) (c : ℕ) → a w (try_acquire_lem c) ≡ b w (try_acquire_lem c)
-  acquire w c = agree w (try_acquire_lem c) (noting_same (seen_same attempted (takes_same w c)) _ _)
+  acquire : (w : World) (c : ℕ) → a w (try_acquire c) ≡ b w (try_acquire c)
+  acquire w c = agree w (try_acquire c) (noting_same (seen_same attempted (takes_same w c)) _ _)
 
   release : (w : World) (l : Lease) → a w (drop_lease l) ≡ b w (drop_lease l)
   release w l = agree w (drop_lease l) (is_same _ _)
@@ -104,8 +104,8 @@ module _ (a b : Build) (first_meets : Meets a) (then_meets : Meets b) where
   bound : (w : World) (script : List ℕ) (place : ℕ) (held : List ℕ) → a w (environment script place held) ≡ b w (environment script place held)
   bound w script place held = agree w (environment script place held) (seen_same bounded (noting_same (runs_same _ script (holds held) (at w place 0))) _ _)
 
-  lock : (w : World) (script : List ℕ) (place : ℕ) (held : List ℕ) (c : ℕ) → a w (try_lock_lem script place held c) ≡ b w (try_lock_lem script place held c)
-  lock w script place held c = agree w (try_lock_lem script place held c) (locks_same script (holds held) (at w place 0) c _ _)
+  lock : (w : World) (script : List ℕ) (place : ℕ) (held : List ℕ) (c : ℕ) → a w (try_lock script place held c) ≡ b w (try_lock script place held c)
+  lock w script place held c = agree w (try_lock script place held c) (locks_same script (holds held) (at w place 0) c _ _)
 
   attempt : (w : World) (registry script : List ℕ) (place : ℕ) (held : List ℕ) (binding bucket : ℕ)
       → a w (transactional registry script place held binding bucket) ≡ b w (transactional registry script place held binding bucket)
@@ -206,7 +206,7 @@ module _ (a b : Build) (first_meets : Meets a) (then_meets : Meets b) where
     first_same (suc left) p = if_same is_same (if_same is_same (first_same left (p + 1)))
 
   pub same : (w : World) (k : Call) → a w k ≡ b w k
-  same w (try_acquire_lem c) = acquire w c
+  same w (try_acquire c) = acquire w c
   same w (drop_lease l) = release w l
   same w (read_permission l) = agree w (read_permission l) (is_same _ _)
   same w (competing_acquire l) = agree w (competing_acquire l) (is_both (acquire w l.cell) _ _)
@@ -214,26 +214,26 @@ module _ (a b : Build) (first_meets : Meets a) (then_meets : Meets b) where
       let x = release w l in
       let y = acquire (left_by (a w (drop_lease l))) l.cell in
       agree w (release_then_handoff l)
-      (is_both (joined_same x (y ∙ ap (λ (z : Made (World × Says)). b (left_by z) (try_acquire_lem l.cell)) x)) _ _)
+      (is_both (joined_same x (y ∙ ap (λ (z : Made (World × Says)). b (left_by z) (try_acquire l.cell)) x)) _ _)
   same w (foreign_release held l) =
       let x = acquire w l.cell in
-      let y = release (left_by (a w (try_acquire_lem l.cell))) l ∙ ap (λ (z : Made (World × Says)). b (left_by z) (drop_lease l)) x in
-      let z = acquire (left_by (a (left_by (a w (try_acquire_lem l.cell))) (drop_lease l))) l.cell ∙ ap (λ (z : Made (World × Says)). b (left_by z) (try_acquire_lem l.cell)) y in
+      let y = release (left_by (a w (try_acquire l.cell))) l ∙ ap (λ (z : Made (World × Says)). b (left_by z) (drop_lease l)) x in
+      let z = acquire (left_by (a (left_by (a w (try_acquire l.cell))) (drop_lease l))) l.cell ∙ ap (λ (z : Made (World × Says)). b (left_by z) (try_acquire l.cell)) y in
       agree w (foreign_release held l) (is_both (joined_same x (joined_same y z)) _ _)
   same w (drop_preserving held l) = agree w (drop_preserving held l) (is_both (release w l) _ _)
   same w (acquire_preserving held c) = agree w (acquire_preserving held c) (is_both (acquire w c) _ _)
   same w (environment script place held) = bound w script place held
-  same w (try_lock_lem script place held c) = lock w script place held c
+  same w (try_lock script place held c) = lock w script place held c
   same w (transactional registry script place held binding bucket) = attempt w registry script place held binding bucket
   same w (acquire_bucket registry script place held binding bucket) = retry w registry script place held binding bucket
-  same w (release_all_lem script place leases) = agree w (release_all_lem script place leases) (λ x y. back_same w.head.boot script [] x y refl refl refl)
+  same w (release_all script place leases) = agree w (release_all script place leases) (λ x y. back_same w.head.boot script [] x y refl refl refl)
   same w (acquire_locks registry script place held keys grants) = many w registry script place held keys grants
   same w (acquire_sorted registry script place held keys grants) =
       agree w (acquire_sorted registry script place held keys grants) (first_same w registry script place held keys grants (length keys / 2) 0 _ _)
   same w (crew counts cells turns) =
       agree w (crew counts cells turns) (seen_same (λ v. plainly v.world Done) (turns_same (λ n. 0) counts cells (gathered w []) turns) _ _)
-  same w (crew_at_work_lem counts cells turns counters) =
-      agree w (crew_at_work_lem counts cells turns counters) (seen_same (λ v. plainly v.world Done) (turns_same (λ n. n) counts cells (gathered w counters) turns) _ _)
+  same w (crew_at_work counts cells turns counters) =
+      agree w (crew_at_work counts cells turns counters) (seen_same (λ v. plainly v.world Done) (turns_same (λ n. n) counts cells (gathered w counters) turns) _ _)
 
 -- two builds that meet it say the same, leave the same world and have the same log
 pub one_build : (a b : Build) → Meets a → Meets b → (w : World) (k : Call) → a w k ≡ b w k

@@ -19,12 +19,13 @@ use Rattle.types.specs.declared.Refusal.TheVariants.{Poisoned}
 use Rattle.laws.specs.Shape.{shaped}
 use Rattle.laws.specs.Checks.{not_stale}
 use Rattle.history.specs.World.{World, Unreleased}
-use Rattle.history.specs.Items.{Build, Says, says, Clear, rules, perform, try_acquire_lem, drop_lease, environment, try_lock_lem}
+use Rattle.history.specs.Items.{Build, Says, says, Clear, rules, perform, try_acquire, drop_lease, environment, try_lock}
 use Rattle.history.specs.Statements.{HandsOver}
 use Rattle.history.proofs.Theorems.{given_live, grant_is}
 use Rattle.history.specs.Tests.{In, in_first, in_right, in_cases, none_in}
 use Rattle.history.specs.Events.{Fit}
-use Rattle.history.proofs.Logs.{Kept, kept_live, arena_now}
+use Rattle.history.specs.Logs.{Kept}
+use Rattle.history.proofs.Logs.{kept_live, arena_now}
 use Rattle.history.proofs.Calls.{call_kept}
 use Rattle.history_exact.specs.Script.{environment_has}
 use Rattle.history_exact.specs.Theorems.{place_goes}
@@ -32,7 +33,7 @@ use Rattle.history_exact.specs.Passing.{bucket_on, same_boot, holding_more, in_s
 use Rattle.history.specs.Judged.{clear_front, clear_back, clear_append, refused_so}
 use Rattle.pinned.specs.Words.{Gives, IfGranted, Is, If◌Then◌Else◌, With, logged, After, Noting, health_byte, waiters, counted, freed, holds}
 use Rattle.pinned.specs.Checks.{Passed, checks}
-use Rattle.pinned.specs.Steps.{Takes, At, at, Runs, Boundary, releasing, ended, AfterTake, header_of_lem}
+use Rattle.pinned.specs.Steps.{Takes, At, at, Runs, Boundary, releasing, ended, AfterTake, header_of}
 use Rattle.pinned.specs.Statements.{left_by, place_by}
 use Rattle.pinned.proofs.Decided.{holds_same, matched, decided, first_is, passed_clear}
 use Rattle.pinned.specs.Same.{runs_same, takes_same, noting_same}
@@ -85,8 +86,8 @@ abbrev pub rest : List Event → List Event
 rest [] = []
 rest (e ∷ es) = es
 
-take_call : (w : World) (c : ℕ) (t : Made (World × Answer)) → Clear (rules w (try_acquire_lem c)) → Takes w c t
-    → let z = perform w (try_acquire_lem c) in t ≡ logged (left_by z, z.seen.1.answer) (rest z.log)
+take_call : (w : World) (c : ℕ) (t : Made (World × Answer)) → Clear (rules w (try_acquire c)) → Takes w c t
+    → let z = perform w (try_acquire c) in t ≡ logged (left_by z, z.seen.1.answer) (rest z.log)
 take_call w c t k r =
     let e = acquire_is w c k in
     let n = e.1.0 in
@@ -118,8 +119,8 @@ module _ (b : Build) (w : World) (script : List ℕ) (place : ℕ) (held : List 
       let u = bounding v p (held ++ (l.cell ∷ l.serial ∷ l.boot ∷ [])) in
       let back = b (left_by u) (drop_lease l) in
       let e = d + u.seen.1.counts.dropped in
-      If health_byte (left_by u) (header_of_lem (left_by u) c) ≢ 0
-      Then Is (logged (said (left_by back) 3 e (place_by u) (Refused (Poisoned (header_of_lem (left_by u) c)))) (u.log ++ back.log))
+      If health_byte (left_by u) (header_of (left_by u) c) ≢ 0
+      Then Is (logged (said (left_by back) 3 e (place_by u) (Refused (Poisoned (header_of (left_by u) c)))) (u.log ++ back.log))
       Else If waiters (left_by u) c ≢ 0 Then Is (logged (said (left_by back) 3 e (place_by u) (Busy (reason.After l.serial))) (u.log ++ back.log))
       Else Is (logged (said (left_by u) 3 e (place_by u) (Granted l)) u.log))
       (Gives (said v 2 d p x))
@@ -129,7 +130,7 @@ module _ (b : Build) (w : World) (script : List ℕ) (place : ℕ) (held : List 
   LockCalls =
       let x = bounding w place held in
       let y = bounding (left_by x) (place_by x) held in
-      let z = b (left_by y) (try_acquire_lem c) in
+      let z = b (left_by y) (try_acquire c) in
       Noting attempt_begun
       (If waiters (left_by x) c ≢ 0 Then Is (logged (said (left_by x) 1 x.seen.1.counts.dropped (place_by x) (Busy reason.Before)) x.log)
       Else With (Granting (left_by z) (place_by y) (x.seen.1.counts.dropped + y.seen.1.counts.dropped) z.seen.1.answer) λ n.
@@ -137,15 +138,15 @@ module _ (b : Build) (w : World) (script : List ℕ) (place : ℕ) (held : List 
 
 abbrev pub TryLockAsCalls : Build → Type 0
 TryLockAsCalls b =
-    (w : World) (script : List ℕ) (place : ℕ) (held : List ℕ) (c : ℕ) → Passed (checks w (try_lock_lem script place held c)) → length held / 3 ≤ 63
-    → LockCalls b w script place held c (b w (try_lock_lem script place held c))
+    (w : World) (script : List ℕ) (place : ℕ) (held : List ℕ) (c : ℕ) → Passed (checks w (try_lock script place held c)) → length held / 3 ≤ 63
+    → LockCalls b w script place held c (b w (try_lock script place held c))
 
 -- ---- the checks go on passing. A registry of one entry, to speak of a call by key
 
 abbrev pub Fine : World → (script : List ℕ) (place : ℕ) (held : List ℕ) → Type 0
 Fine w script p held = Clear (bucket_rules w.head w.table w.health (0 ∷ []) script p held 0)
 
-from_lock : (w : World) (script : List ℕ) (place : ℕ) (held : List ℕ) (c : ℕ) → Clear (rules w (try_lock_lem script place held c)) → Fine w script place held × (c < cells_of w.head)
+from_lock : (w : World) (script : List ℕ) (place : ℕ) (held : List ℕ) (c : ℕ) → Clear (rules w (try_lock script place held c)) → Fine w script place held × (c < cells_of w.head)
 unfolding lock_rules script_rules bucket_rules registry_fits
 from_lock w script place held c k =
     let front = clear_front (bad_held w.head w.table held) (bad_cell w.head c ∷ []) k.1.1.1 in
@@ -170,7 +171,7 @@ fine_held : (w : World) (script : List ℕ) (p : ℕ) (held : List ℕ) → Fine
 unfolding bucket_rules
 fine_held w script p held k = divides held k.1.1.1.1.0
 
-cell_fine : (w : World) (c : ℕ) → not (shape_fits w.head (length w.table)) ≡ false → c < cells_of w.head → Clear (rules w (try_acquire_lem c))
+cell_fine : (w : World) (c : ℕ) → not (shape_fits w.head (length w.table)) ≡ false → c < cells_of w.head → Clear (rules w (try_acquire c))
 unfolding cell_rules
 cell_fine w c k l = (k, (lt-leb (cells_of w.head) c l, tt))
 
@@ -190,9 +191,9 @@ take_unreleased (inr (_, inl (x, e))) l = subst (λ (t : Made (World × Answer))
 take_unreleased (inr (_, inr (_, inl (x, e)))) l = subst (λ (t : Made (World × Answer)). Unreleased l t.log) (sym e) tt
 take_unreleased (inr (_, inr (_, inr (x, e)))) l = subst (λ (t : Made (World × Answer)). Unreleased l t.log) (sym e) ((λ z. z), tt)
 
-unreleased : (w : World) (c : ℕ) (l : Hold) → Unreleased l (perform w (try_acquire_lem c)).log
+unreleased : (w : World) (c : ℕ) (l : Hold) → Unreleased l (perform w (try_acquire c)).log
 unreleased w c l =
-    let k = try_acquire_lem c in
+    let k = try_acquire c in
     elim (decided (rules w k) (checks w k) (matched w k)) [
       | inl r ↦ subst (λ (m : Made (World × Says)). Unreleased l m.log) (sym (refused_so w k r.0 (first_is (rules w k) (checks w k) r.0 (matched w k) r.1))) tt
       | inr p ↦
@@ -201,29 +202,29 @@ unreleased w c l =
           ((λ z. z), subst (λ (m : Made (World × Says)). Unreleased l m.log) (sym x.1.2) (take_unreleased x.1.1 l))
     ]
 
-take_kept : (w : World) (c : ℕ) (P : Hold → Type 0) → Kept w P (perform w (try_acquire_lem c)).seen.0 (perform w (try_acquire_lem c)).log
+take_kept : (w : World) (c : ℕ) (P : Hold → Type 0) → Kept w P (perform w (try_acquire c)).seen.0 (perform w (try_acquire c)).log
 take_kept w c P =
-    let o = (call_kept w (try_acquire_lem c)).kept in
+    let o = (call_kept w (try_acquire c)).kept in
     record { lawful = o.lawful; leads = o.leads; spares = λ l i v. unreleased w c l }
 
 -- ---- behind a grant
 
 module _ (v : World) (script : List ℕ) (p : ℕ) (hs : List ℕ) (c : ℕ) (l : Lease) (few : length hs / 3 ≤ 63) (fine : Fine v script p hs)
-    (granted : (perform v (try_acquire_lem c)).seen.1.answer ≡ Granted l) where
+    (granted : (perform v (try_acquire c)).seen.1.answer ≡ Granted l) where
   abbrev now : World
-  now = (perform v (try_acquire_lem c)).seen.0
+  now = (perform v (try_acquire c)).seen.0
 
   abbrev more : List ℕ
   more = hs ++ (l.cell ∷ l.serial ∷ l.boot ∷ [])
 
-  kept : Kept v (In (holds_of hs)) now (perform v (try_acquire_lem c)).log
+  kept : Kept v (In (holds_of hs)) now (perform v (try_acquire c)).log
   kept = take_kept v c (In (holds_of hs))
 
   boot : l.boot ≡ now.head.boot
-  boot = (grant_is v (try_acquire_lem c) l granted).1 ∙ sym (same_boot hs kept)
+  boot = (grant_is v (try_acquire c) l granted).1 ∙ sym (same_boot hs kept)
 
   live : is_live now.head.next (cells_of now.head) now.table (hold_in l) ≡ true
-  live = given_live v (try_acquire_lem c) (hold_in l) (subst (λ (a : Answer). HandsOver a (perform v (try_acquire_lem c)).seen.1.grants (hold_in l)) (sym granted) refl)
+  live = given_live v (try_acquire c) (hold_in l) (subst (λ (a : Answer). HandsOver a (perform v (try_acquire c)).seen.1.grants (hold_in l)) (sym granted) refl)
 
   more_fine : Fine now script p more
   unfolding words_of is_in
@@ -263,15 +264,15 @@ module _ (w : World) (script : List ℕ) (place : ℕ) (hs : List ℕ) (c : ℕ)
 
   -- from where the take left off
   granting : (v : World) (p d : ℕ) (R : Made (World × Says)) → Fine v script p hs
-      → let z = perform v (try_acquire_lem c) in
+      → let z = perform v (try_acquire c) in
       (a : Answer) → z.seen.1.answer ≡ a → AfterTake script (holds hs) (at (left_by z) p d) c a R → Granting perform w script place hs c (left_by z) p d a R
   granting v p d R fine (Granted l) e (x, r, (n, t, f)) =
-      let z = perform v (try_acquire_lem c) in
+      let z = perform v (try_acquire c) in
       let more = hs ++ (l.cell ∷ l.serial ∷ l.boot ∷ []) in
       let s = subst (λ (ps : List Hold). Boundary script ps (at (left_by z) p d) x) (sym (more_holds v script p hs c l few fine e)) r in
       let q = bound_call (left_by z) script p more d x (env_fine (left_by z) script p more (more_fine v script p hs c l few fine e)) s in
       let u = perform (left_by z) (environment script p more) in
-      let same : l.cell ≡ c = (grant_is v (try_acquire_lem c) l e).0 in
+      let same : l.cell ≡ c = (grant_is v (try_acquire c) l e).0 in
       let ok = drop_fine v script p hs c l few fine e in
       let i : freed (left_by u) c ≡ left_by (perform (left_by u) (drop_lease l)) = ap (freed (left_by u)) (sym same) ∙ free_call (left_by u) l ok in
       let j : (released by_caller c l.serial ∷ []) ≡ (perform (left_by u) (drop_lease l)).log = ap (λ (x : ℕ). released by_caller x l.serial ∷ []) (sym same) ∙ free_log (left_by u) l ok in
@@ -315,7 +316,7 @@ module _ (w : World) (script : List ℕ) (place : ℕ) (hs : List ℕ) (c : ℕ)
       If◌Then◌Else◌ (waiters y.seen.world c ≢ 0) (Is (logged (ended y.seen 1 (Busy reason.Before)) []))
       (After (Boundary script (holds hs) y.seen) λ d. After (Takes d.world c) λ t. AfterTake script (holds hs) (at t.0 d.place d.dropped) c t.1)
 
-  lock_calls : Clear (rules w (try_lock_lem script place hs c)) → LockCalls perform w script place hs c (perform w (try_lock_lem script place hs c))
+  lock_calls : Clear (rules w (try_lock script place hs c)) → LockCalls perform w script place hs c (perform w (try_lock script place hs c))
   lock_calls k =
       let o = from_lock w script place hs c k in
       let (begun, (a, r, (n, t, f)), whole) = try_lock_is w script place hs c k in
@@ -330,7 +331,7 @@ module _ (w : World) (script : List ℕ) (place : ℕ) (hs : List ℕ) (c : ℕ)
       go : (x : Made (World × Says)) → Fine (left_by x) script (place_by x) hs → c < cells_of (left_by x).head → (R n : Made (World × Says))
           → FromFirst (logged (at (left_by x) (place_by x) x.seen.1.counts.dropped) x.log) n → R ≡ logged n.seen (x.log ++ n.log)
           → let y = perform (left_by x) (environment script (place_by x) hs) in
-          let z = perform (left_by y) (try_acquire_lem c) in
+          let z = perform (left_by y) (try_acquire c) in
           If◌Then◌Else◌ (waiters (left_by x) c ≢ 0) (Is (logged (said perform w script place hs c (left_by x) 1 x.seen.1.counts.dropped (place_by x) (Busy reason.Before)) x.log))
           (With (Granting perform w script place hs c (left_by z) (place_by y) (x.seen.1.counts.dropped + y.seen.1.counts.dropped) z.seen.1.answer) λ n.
           Is (logged n.seen (x.log ++ (y.log ++ (rest z.log ++ n.log))))) R
@@ -342,7 +343,7 @@ module _ (w : World) (script : List ℕ) (place : ℕ) (hs : List ℕ) (c : ℕ)
           )
       go x fine inside R n (inr (none, (b, r, (m, (t, s, (g, f, u)), v)))) q =
           let y = perform (left_by x) (environment script (place_by x) hs) in
-          let z = perform (left_by y) (try_acquire_lem c) in
+          let z = perform (left_by y) (try_acquire c) in
           let d = x.seen.1.counts.dropped + y.seen.1.counts.dropped in
           let e = bound_call (left_by x) script (place_by x) hs x.seen.1.counts.dropped b (env_fine (left_by x) script (place_by x) hs fine) r in
           let still = env_next (left_by x) script (place_by x) hs fine in
@@ -365,5 +366,5 @@ module _ (w : World) (script : List ℕ) (place : ℕ) (hs : List ℕ) (c : ℕ)
 
 pub try_lock_as_calls : TryLockAsCalls perform
 try_lock_as_calls w script place held c p few =
-    let k = try_lock_lem script place held c in
+    let k = try_lock script place held c in
     lock_calls w script place held c few (passed_clear (rules w k) (checks w k) (matched w k) p)

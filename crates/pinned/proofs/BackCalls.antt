@@ -19,19 +19,20 @@ use Rattle.laws.specs.Shape.{shaped}
 use Rattle.laws.specs.Checks.{not_stale}
 use Rattle.laws.specs.Lists.{holds_few}
 use Rattle.history.specs.World.{World}
-use Rattle.history.specs.Items.{Says, says, Clear, rules, perform, drop_lease, environment, release_all_lem}
+use Rattle.history.specs.Items.{Says, says, Clear, rules, perform, drop_lease, environment, release_all}
 use Rattle.history.specs.Tests.{In, in_take, differ}
 use Rattle.history.specs.Events.{Fit}
-use Rattle.history.proofs.Logs.{Kept, event, weaken, kept_live}
+use Rattle.history.specs.Logs.{Kept}
+use Rattle.history.proofs.Logs.{event, weaken, kept_live}
 use Rattle.history.proofs.Calls.{call_kept, words_leases, releasable}
-use Rattle.history.proofs.Many.{Held}
+use Rattle.history.specs.Many.{Held}
 use Rattle.history_exact.specs.Script.{environment_has}
 use Rattle.history_exact.specs.Theorems.{place_goes}
 use Rattle.history_exact.specs.KeyByKey.{in_first_of}
 use Rattle.history_exact.specs.Passing.{bucket_on, same_boot, holding_more, leases_append}
 use Rattle.pinned.specs.Words.{logged, counted, freed, holds, words}
 use Rattle.pinned.specs.Steps.{At, at, Boundary}
-use Rattle.pinned.proofs.Stepping.{ReleasesEach}
+use Rattle.pinned.specs.Stepping.{ReleasesEach}
 use Rattle.pinned.specs.Statements.{plainly, left_by, place_by, joined, dropping, GivesBack, all_back, one_back}
 use Rattle.pinned.proofs.Decided.{holds_same}
 use Rattle.pinned.specs.Same.{Same, is_same, follow_same, noting_same, runs_same}
@@ -188,7 +189,7 @@ module _ (boot : ℕ) (script : List ℕ) (ls : List Hold) where
       )
 
 -- what the checks of the call say
-module _ (w : World) (script : List ℕ) (place : ℕ) (leases : List ℕ) (k : Clear (rules w (release_all_lem script place leases))) where
+module _ (w : World) (script : List ℕ) (place : ℕ) (leases : List ℕ) (k : Clear (rules w (release_all script place leases))) where
   begins : Fine w script place []
   unfolding release_rules bucket_rules registry_fits not_live leases_of
   begins = (k.0, (k.1.0, (refl, (k.1.1.0, (refl, (refl, tt))))))
@@ -201,7 +202,7 @@ module _ (w : World) (script : List ℕ) (place : ℕ) (leases : List ℕ) (k : 
   unfolding release_rules
   room = ltb-false 64 (lease_count leases) (neither (is_uneven leases) _ k.1.1.1.0).1
 
-pub release_all_is : (w : World) (script : List ℕ) (place : ℕ) (leases : List ℕ) → Clear (rules w (release_all_lem script place leases)) → B w (release_all_lem script place leases)
+pub release_all_is : (w : World) (script : List ℕ) (place : ℕ) (leases : List ℕ) → Clear (rules w (release_all script place leases)) → B w (release_all script place leases)
 release_all_is w script place leases k =
     let n = length leases / 3 in
     let ls = holds leases in

@@ -1,4 +1,5 @@
 -- Beside a build's calls: the crew's whole reply with its log, a lone foreign step with its event, and preparing. Ours is as `Statements` says, and nothing else is.
+-- ---- the crew
 use Rattle.std.specs.Prelude.{ℕ, ◌≡◌, refl, List, [], Bool, true, false, not, ◌≢◌, length, replicate}
 use Rattle.std.proofs.Common.{sym, ap, ◌∙◌, append-nil, inl, inr}
 use Rattle.std.proofs.Math.Path.{fun_ext}
@@ -14,19 +15,19 @@ use Rattle.types.specs.declared.CrewReply.{CrewReply}
 use Rattle.types.specs.declared.Head.{Head}
 use Rattle.types.specs.declared.Refusal.TheVariants.{BadShape}
 use Rattle.history.specs.World.{World, world_of}
-use Rattle.history.specs.Items.{Stepper, rules, foreign, crew, crew_at_work_lem}
+use Rattle.history.specs.Items.{Stepper, rules, foreign, crew, crew_at_work}
 use Rattle.history.specs.Judged.{clear_fine}
 use Rattle.history.specs.Statements.{CrewBuild, CrewAtWorkBuild}
 use Rattle.pinned.specs.Words.{Is, If◌Then◌Else◌, logged, head_of_lem, Shape}
 use Rattle.pinned.specs.Checks.{checks}
 use Rattle.pinned.specs.Steps.{Crew, gathered}
 use Rattle.pinned.specs.Statements.{Crews, Works, replying, StepsAlone, Preparer, PreparesArena, prepared}
-use Rattle.pinned.proofs.Decided.{Decides, matched, first_is, passed_clear, decided, shape_decides, health_decides}
+use Rattle.pinned.specs.Decided.{Decides}
+use Rattle.pinned.proofs.Decided.{matched, first_is, passed_clear, decided, shape_decides, health_decides}
 use Rattle.pinned.proofs.Stepping.{step_is}
 use Rattle.pinned.proofs.Crewed.{look, looking, turns_are, taken_so, released_so}
 use Rattle.pinned.specs.Same.{is_same, if_same, seen_same, step_same, turns_same}
-
--- ---- the crew
+use Rattle.pinned.specs.Beside.{ours}
 
 module _ (h : Head) (g counts : List ℕ) where
   abbrev told : (work : Work) → model.Crew → CrewReply
@@ -70,11 +71,11 @@ works =
     record {
       refused = λ h t g counts cells turns counters r f.
           let w = world_of h t g in
-          let k = crew_at_work_lem counts cells turns counters in
+          let k = crew_at_work counts cells turns counters in
           rw (first_is (rules w k) (checks w k) r (matched w k) f);
       beyond = λ h t g counts cells turns counters p.
           let w = world_of h t g in
-          let k = crew_at_work_lem counts cells turns counters in
+          let k = crew_at_work counts cells turns counters in
           let m = turns_of adds h.headers h.buckets g counts cells (crew_start h t counters) turns in
           let v = m.seen in
           let fine = clear_fine (rules w k) (passed_clear (rules w k) (checks w k) (matched w k) p) in
@@ -98,7 +99,7 @@ pub no_other_work : (f : CrewAtWorkBuild) → Works f → (h : Head) (t g counts
     → f h t g counts cells turns counters ≡ crew_at_work_of h t g counts cells turns counters
 no_other_work f c h t g counts cells turns counters =
     let w = world_of h t g in
-    let k = crew_at_work_lem counts cells turns counters in
+    let k = crew_at_work counts cells turns counters in
     elim (decided (rules w k) (checks w k) (matched w k)) [
       | inl r ↦ c.refused h t g counts cells turns counters r.0 r.1 ∙ sym (works.refused h t g counts cells turns counters r.0 r.1)
       | inr p ↦ seen_same (λ v. (replying (λ n. n) counts v, (v.world.table, v.counters))) (turns_same (λ n. n) counts cells (gathered w counters) turns) _ _ (c.beyond h t g counts cells turns counters p) (works.beyond h t g counts cells turns counters p)
@@ -124,11 +125,6 @@ steps_alone w kind place number =
 pub no_other_step : (f : Stepper) → StepsAlone f → (w : World) (kind place number : ℕ) → f w kind place number ≡ foreign w kind place number
 no_other_step f s w kind place number =
     seen_same (λ (x : World × ℕ). x.0) (step_same w [] kind place number) _ _ (s w kind place number) (steps_alone w kind place number)
-
--- ---- preparing
-
-abbrev pub ours : Preparer
-ours headers buckets serial boot t g = prepare_of headers buckets serial boot t g
 
 pub prepares : PreparesArena ours
 unfolding prepare_of prepare_rules first

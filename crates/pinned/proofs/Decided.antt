@@ -15,21 +15,12 @@ use Rattle.types.specs.declared.Refusal.{Refusal}
 use Rattle.types.specs.declared.Refusal.TheVariants.{BadBinding}
 use Rattle.laws.specs.Shape.{shaped}
 use Rattle.history.specs.World.{World}
-use Rattle.history.specs.Items.{Call, Clear, rules, try_acquire_lem, drop_lease, read_permission, competing_acquire, release_then_handoff, foreign_release, drop_preserving, acquire_preserving, environment, try_lock_lem, transactional, acquire_bucket, release_all_lem, acquire_locks, acquire_sorted, crew, crew_at_work_lem}
+use Rattle.history.specs.Items.{Call, Clear, rules, try_acquire, drop_lease, read_permission, competing_acquire, release_then_handoff, foreign_release, drop_preserving, acquire_preserving, environment, try_lock, transactional, acquire_bucket, release_all, acquire_locks, acquire_sorted, crew, crew_at_work}
 use Rattle.history.specs.Tests.{alive, live, in_first, in_rest, in_cases, differ}
 use Rattle.history.specs.Events.{fits}
 use Rattle.pinned.specs.Words.{Shape, IsLive, StandsIn, size, holds}
 use Rattle.pinned.specs.Checks.{Checks, pass, ◌refuses◌else◌, First, Passed, checks, each_held, held_list, bindings, in_range, one_lease, not_in, each_given, lease_list, key_list, lists, each_turn, crew_is, cells_of_lem, sum, Limits, Rises}
-
--- a test decides a condition
-abbrev pub Decides : Bool → Type 0 → Type 0
-Decides b C = (b ≡ true → C) × (b ≡ false → C → ⊥)
-
-abbrev pub Matches : List Rule → Checks → Type 0
-Matches [] pass = Unit {0}
-Matches [] (C refuses r else cs) = ⊥
-Matches (x ∷ xs) pass = ⊥
-Matches (x ∷ xs) (C refuses r else cs) = Decides x.applies C × (refusal_of x.number x.carries ≡ r) × Matches xs cs
+use Rattle.pinned.specs.Decided.{Decides, Matches}
 
 pub first_is : (xs : List Rule) (cs : Checks) (r : Refusal) → Matches xs cs → First cs r → first xs ≡ Fault r
 unfolding first
@@ -383,7 +374,7 @@ locks_match w registry script place held keys grants = (
 
 pub matched : (w : World) (k : Call) → Matches (rules w k) (checks w k)
 unfolding cell_rules lease_rules held_cell_rules held_lease_rules script_rules lock_rules bucket_rules release_rules locks_rules crew_rules crew_at_work_rules
-matched w (try_acquire_lem c) = (shape_d w, refl, range_match w c)
+matched w (try_acquire c) = (shape_d w, refl, range_match w c)
 matched w (drop_lease l) = (shape_d w, refl, lease_match w l [] pass tt)
 matched w (read_permission l) = (shape_d w, refl, lease_match w l [] pass tt)
 matched w (competing_acquire l) = (shape_d w, refl, lease_match w l [] pass tt)
@@ -392,13 +383,13 @@ matched w (foreign_release held l) = (shape_d w, refl, held_lease_match w held l
 matched w (drop_preserving held l) = (shape_d w, refl, held_lease_match w held l)
 matched w (acquire_preserving held c) = (shape_d w, refl, held_list_match w held (bad_cell w.head c ∷ []) (in_range w c pass) (range_match w c))
 matched w (environment script place held) = (shape_d w, refl, (bytes_d w, refl, (script_decides script place, refl, held_only w held)))
-matched w (try_lock_lem script place held c) =
+matched w (try_lock script place held c) =
     (shape_d w, refl, (bytes_d w, refl, (script_decides script place, refl, held_list_match w held (bad_cell w.head c ∷ []) (in_range w c pass) (range_match w c))))
 matched w (transactional registry script place held binding bucket) = bucket_match w registry script place held binding
 matched w (acquire_bucket registry script place held binding bucket) = bucket_match w registry script place held binding
-matched w (release_all_lem script place leases) = (shape_d w, refl, (bytes_d w, refl, (script_decides script place, refl, leases_match w leases)))
+matched w (release_all script place leases) = (shape_d w, refl, (bytes_d w, refl, (script_decides script place, refl, leases_match w leases)))
 matched w (acquire_locks registry script place held keys grants) = locks_match w registry script place held keys grants
 matched w (acquire_sorted registry script place held keys grants) = locks_match w registry script place held keys grants
 matched w (crew counts cells turns) = (shape_d w, refl, (bytes_d w, refl, crew_match w counts cells turns))
-matched w (crew_at_work_lem counts cells turns counters) =
+matched w (crew_at_work counts cells turns counters) =
     (shape_d w, refl, (bytes_d w, refl, (ne_decides (length counters) (size w), refl, crew_match w counts cells turns)))

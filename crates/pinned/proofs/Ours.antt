@@ -28,7 +28,7 @@ use Rattle.types.specs.declared.Refusal.TheVariants.{BadHeader, Poisoned, Invali
 use Rattle.types.specs.declared.Take.TheVariants as taking
 use Rattle.laws.specs.Checks.{live_inside}
 use Rattle.history.specs.World.{World, world_of}
-use Rattle.history.specs.Items.{Says, says, Clear, rules, perform, Call, try_acquire_lem, drop_lease, competing_acquire, release_then_handoff, foreign_release, drop_preserving, acquire_preserving, environment, try_lock_lem, transactional, acquire_bucket, release_all_lem, acquire_locks, crew, crew_at_work_lem}
+use Rattle.history.specs.Items.{Says, says, Clear, rules, perform, Call, try_acquire, drop_lease, competing_acquire, release_then_handoff, foreign_release, drop_preserving, acquire_preserving, environment, try_lock, transactional, acquire_bucket, release_all, acquire_locks, crew, crew_at_work}
 use Rattle.history.specs.Judged.{past_checks, clear_front, clear_back, clear_append, made_so}
 use Rattle.history.specs.Tests.{alive, state_held}
 use Rattle.history_exact.specs.Attempts as calls
@@ -36,16 +36,17 @@ use Rattle.history_exact.specs.Attempting.{bucket_attempts}
 use Rattle.history_exact.specs.KeyByKey.{locks_as_calls}
 use Rattle.pinned.specs.Words.{SeenAs, logged, counted, holds, words}
 use Rattle.pinned.specs.Steps.{at, Boundary, Locks}
-use Rattle.pinned.specs.Statements.{Beyond, ByKey, left_by, place_by, joined, Pauses, AfterAttempt, Retries, dropping, between, locking, refused_at_lem, GivesBack, all_back, one_back, AfterKey, Keys}
+use Rattle.pinned.specs.Statements.{Beyond, ByKey, left_by, place_by, joined, Pauses, AfterAttempt, Retries, dropping, between, locking, refused_at, GivesBack, all_back, one_back, AfterKey, Keys}
 use Rattle.pinned.proofs.Decided.{holds_same}
-use Rattle.pinned.proofs.Stepping.{takes, point, pointed, boundary_is, shown, lock_is, ReleasesEach, back_is}
+use Rattle.pinned.specs.Stepping.{ReleasesEach}
+use Rattle.pinned.proofs.Stepping.{takes, point, pointed, boundary_is, shown, lock_is, back_is}
 use Rattle.pinned.proofs.Crewed.{turns_are}
 
 module _ (w : World) where
   abbrev pub B : Call → Type 0
   B k = Beyond perform w k (perform w k)
 
-  pub acquire_is : (c : ℕ) → Clear (rules w (try_acquire_lem c)) → B (try_acquire_lem c)
+  pub acquire_is : (c : ℕ) → Clear (rules w (try_acquire c)) → B (try_acquire c)
   unfolding acquire_of
   acquire_is c k =
       let m = take_of w.head.next w.table c in
@@ -53,7 +54,7 @@ module _ (w : World) where
       let x : World × Answer = (world_of (spent_to w.head o.0.next) o.1 w.health, answer_of w.head.boot (outcome_of c o.0.answer)) in (
         logged (x.0, says x.1 (counted 1 0 0 0) 0 []) m.log,
         (logged x m.log, takes w.head w.head.next w.table w.health c, refl),
-        made_so w (try_acquire_lem c) k ∙ ap (λ (es : List Event). logged (x.0, says x.1 (counted 1 0 0 0) 0 []) (attempt_begun ∷ es)) (append-nil m.log),
+        made_so w (try_acquire c) k ∙ ap (λ (es : List Event). logged (x.0, says x.1 (counted 1 0 0 0) 0 []) (attempt_begun ∷ es)) (append-nil m.log),
       )
 
   pub drop_is : (l : Lease) → Clear (rules w (drop_lease l)) → B (drop_lease l)
@@ -75,10 +76,10 @@ module _ (w : World) where
   held_cell held c k = (k.0, clear_back (bad_held w.head w.table held) _ k.1)
 
   pub competing_is : (l : Lease) → Clear (rules w (competing_acquire l)) → B (competing_acquire l)
-  competing_is l k = made_so w (competing_acquire l) k ∙ sym (made_so w (try_acquire_lem l.cell) (lease_cell l k))
+  competing_is l k = made_so w (competing_acquire l) k ∙ sym (made_so w (try_acquire l.cell) (lease_cell l k))
 
   pub acquire_held_is : (held : List ℕ) (c : ℕ) → Clear (rules w (acquire_preserving held c)) → B (acquire_preserving held c)
-  acquire_held_is held c k = made_so w (acquire_preserving held c) k ∙ sym (made_so w (try_acquire_lem c) (held_cell held c k))
+  acquire_held_is held c k = made_so w (acquire_preserving held c) k ∙ sym (made_so w (try_acquire c) (held_cell held c k))
 
   pub drop_held_is : (held : List ℕ) (l : Lease) → Clear (rules w (drop_preserving held l)) → B (drop_preserving held l)
   drop_held_is held l k = made_so w (drop_preserving held l) k ∙ sym (made_so w (drop_lease l) (held_lease held l k))
@@ -101,8 +102,8 @@ module _ (w : World) where
       let c = l.cell in
       made_so w (release_then_handoff l) k
       ∙ sym (
-      ap (λ (m : Made (World × Says)). joined m (perform (left_by m) (try_acquire_lem c))) (made_so w (drop_lease l) k)
-      ∙ ap (joined (released_now l)) (made_so (after c) (try_acquire_lem c) (cell_after c (lease_cell l k)))
+      ap (λ (m : Made (World × Says)). joined m (perform (left_by m) (try_acquire c))) (made_so w (drop_lease l) k)
+      ∙ ap (joined (released_now l)) (made_so (after c) (try_acquire c) (cell_after c (lease_cell l k)))
       )
 
   -- a live lease's cell is held
@@ -122,13 +123,13 @@ module _ (w : World) where
       let busy = held_take l (live_of l lease) in
       let one : Made (World × Says) = logged (w, says (Busy (reason.Held (owner_at w.table c))) (counted 1 0 0 0) 0 []) (attempt_begun ∷ []) in
       let two = released_now l in
-      let x : perform w (try_acquire_lem c) ≡ one = made_so w (try_acquire_lem c) cell ∙ rw busy in
+      let x : perform w (try_acquire c) ≡ one = made_so w (try_acquire c) cell ∙ rw busy in
       let y : perform w (drop_lease l) ≡ two = made_so w (drop_lease l) lease in
-      let z = made_so (after c) (try_acquire_lem c) (cell_after c cell) in
-      let all : past_checks w (foreign_release held l) ≡ joined one (joined two (past_checks (after c) (try_acquire_lem c))) = rw busy in
+      let z = made_so (after c) (try_acquire c) (cell_after c cell) in
+      let all : past_checks w (foreign_release held l) ≡ joined one (joined two (past_checks (after c) (try_acquire c))) = rw busy in
       made_so w (foreign_release held l) k ∙ (all ∙ sym (
-      ap (λ (m : Made (World × Says)). joined m (joined (perform (left_by m) (drop_lease l)) (perform (left_by (perform (left_by m) (drop_lease l))) (try_acquire_lem c)))) x
-      ∙ (ap (λ (m : Made (World × Says)). joined one (joined m (perform (left_by m) (try_acquire_lem c)))) y
+      ap (λ (m : Made (World × Says)). joined m (joined (perform (left_by m) (drop_lease l)) (perform (left_by (perform (left_by m) (drop_lease l))) (try_acquire c)))) x
+      ∙ (ap (λ (m : Made (World × Says)). joined one (joined m (perform (left_by m) (try_acquire c)))) y
       ∙ ap (λ (m : Made (World × Says)). joined one (joined two m)) z)
       ))
     where
@@ -145,10 +146,10 @@ module _ (w : World) where
         made_so w (environment script place held) k,
       )
 
-  pub try_lock_is : (script : List ℕ) (place : ℕ) (held : List ℕ) (c : ℕ) → Clear (rules w (try_lock_lem script place held c)) → B (try_lock_lem script place held c)
+  pub try_lock_is : (script : List ℕ) (place : ℕ) (held : List ℕ) (c : ℕ) → Clear (rules w (try_lock script place held c)) → B (try_lock script place held c)
   try_lock_is script place held c k =
       let o = lock_of (given w.head script (holds_of held)) w.head.buckets (flow_of w.head.next place 0) w.table w.health c in
-      subst (λ (x : Made (World × Says)). Locks script (holds held) (at w place 0) c x) (sym (made_so w (try_lock_lem script place held c) k))
+      subst (λ (x : Made (World × Says)). Locks script (holds held) (at w place 0) c x) (sym (made_so w (try_lock script place held c) k))
       (subst (λ (ps : List Hold). Locks script ps (at w place 0) c (logged (shown w.head script o.seen) (attempt_begun ∷ o.log))) (sym (holds_same held)) (lock_is w.head script (holds_of held) (flow_of w.head.next place 0) w.table w.health c))
 
   back_keeps : (script : List ℕ) (n : ℕ) (ls : List Hold) (r : Run) (t g : List ℕ)
@@ -160,15 +161,15 @@ module _ (w : World) where
       back_keeps script n ls (run_of o.0 r.attempts (r.boundaries + 1) r.yields) o.1.0 o.1.1
 
   -- `release_all` in steps
-  pub release_all_steps : (script : List ℕ) (place : ℕ) (leases : List ℕ) → Clear (rules w (release_all_lem script place leases))
-      → SeenAs (λ x. (x.1.world, says Done (counted 0 x.0 0 x.1.dropped) x.1.place [])) (ReleasesEach (length leases / 3) script (holds leases) 0 (at w place 0)) (perform w (release_all_lem script place leases))
+  pub release_all_steps : (script : List ℕ) (place : ℕ) (leases : List ℕ) → Clear (rules w (release_all script place leases))
+      → SeenAs (λ x. (x.1.world, says Done (counted 0 x.0 0 x.1.dropped) x.1.place [])) (ReleasesEach (length leases / 3) script (holds leases) 0 (at w place 0)) (perform w (release_all script place leases))
   release_all_steps script place leases k =
       let m = give_back_of (length leases / 3) (given w.head script []) (holds_of leases) (starting w.head place) w.table w.health in
       let o = m.seen in (
         logged (o.0.boundaries, point w.head script [] (o.0.flow, o.1)) m.log,
         subst (λ (ls : List Hold). ReleasesEach (length leases / 3) script ls 0 (at w place 0) (logged (o.0.boundaries, point w.head script [] (o.0.flow, o.1)) m.log)) (sym (holds_same leases))
             (back_is w.head script (length leases / 3) (holds_of leases) (starting w.head place) w.table w.health),
-        made_so w (release_all_lem script place leases) k
+        made_so w (release_all script place leases) k
             ∙ (let e = back_keeps script (length leases / 3) (holds_of leases) (starting w.head place) w.table w.health in
             ap (λ (x : ℕ). logged (world_of (spent_to w.head o.0.flow.next) o.1.0 o.1.1, says Done (counted x o.0.boundaries o.0.yields o.0.flow.dropped) o.0.flow.place []) m.log) e.0
             ∙ ap (λ (x : ℕ). logged (world_of (spent_to w.head o.0.flow.next) o.1.0 o.1.1, says Done (counted 0 o.0.boundaries x o.0.flow.dropped) o.0.flow.place []) m.log) e.1),
@@ -177,9 +178,9 @@ module _ (w : World) where
   pub crew_is : (counts cells turns : List ℕ) → Clear (rules w (crew counts cells turns)) → B (crew counts cells turns)
   crew_is counts cells turns k = (_, turns_are w.head w.health counts cells rests (crew_start w.head w.table []) turns, made_so w (crew counts cells turns) k)
 
-  pub work_is : (counts cells turns counters : List ℕ) → Clear (rules w (crew_at_work_lem counts cells turns counters)) → B (crew_at_work_lem counts cells turns counters)
+  pub work_is : (counts cells turns counters : List ℕ) → Clear (rules w (crew_at_work counts cells turns counters)) → B (crew_at_work counts cells turns counters)
   work_is counts cells turns counters k =
-      (_, turns_are w.head w.health counts cells adds (crew_start w.head w.table counters) turns, made_so w (crew_at_work_lem counts cells turns counters) k)
+      (_, turns_are w.head w.health counts cells adds (crew_start w.head w.table counters) turns, made_so w (crew_at_work counts cells turns counters) k)
 
   -- ---- by key
 
@@ -187,7 +188,7 @@ module _ (w : World) where
   inside h b header bucket i j = omega (arith, mul-le-mul_right b i, suc-mul header b)
 
   key_lock : (registry script : List ℕ) (place : ℕ) (held : List ℕ) (binding c : ℕ) → Clear (rules w (transactional registry script place held binding 0)) → c < cells_of w.head
-      → Clear (rules w (try_lock_lem script place held c))
+      → Clear (rules w (try_lock script place held c))
   unfolding bucket_rules lock_rules script_rules
   key_lock registry script place held binding c k l = (
     k.0,
@@ -236,7 +237,7 @@ module _ (w : World) where
               (λ n. n (eqb-true _ 0 f)),
               inr (
                 (λ l. omega arith),
-                rw (zero-add o.seen.0.boundaries, append-nil o.log) (sym (made_so w (try_lock_lem script place held c) (key_lock registry script place held binding c k (inside w.head.headers w.head.buckets header bucket i j)))),
+                rw (zero-add o.seen.0.boundaries, append-nil o.log) (sym (made_so w (try_lock script place held c) (key_lock registry script place held binding c k (inside w.head.headers w.head.buckets header bucket i j)))),
               ),
             ),
           )
@@ -311,8 +312,8 @@ module _ (boot : ℕ) (registry script held keys grants : List ℕ) where
       let u = calls.locking perform boot registry script held keys grants p taken w place in
       let b : u ≡ locking perform boot registry script held keys grants p taken w place
       = ap (λ (z : List ℕ). perform w (acquire_bucket registry script place (held ++ z) (get_or keys (2 * p) 0) (get_or keys (2 * p + 1) 0))) (sym (words_same boot taken)) in
-      subst (λ (z : Made (World × Says)). AfterKey perform boot registry script held keys grants p taken z (λ l. Keys perform boot registry script held keys grants left (p + 1) (taken ++ (l ∷ [])) (left_by z) (place_by z)) z.seen.1.answer (refused_at_lem perform boot registry script held keys grants r p (joined u n))) b
-      (subst (λ (a : Answer). AfterKey perform boot registry script held keys grants p taken u (λ l. Keys perform boot registry script held keys grants left (p + 1) (taken ++ (l ∷ [])) (left_by u) (place_by u)) a (refused_at_lem perform boot registry script held keys grants r p (joined u n))) (sym e)
+      subst (λ (z : Made (World × Says)). AfterKey perform boot registry script held keys grants p taken z (λ l. Keys perform boot registry script held keys grants left (p + 1) (taken ++ (l ∷ [])) (left_by z) (place_by z)) z.seen.1.answer (refused_at perform boot registry script held keys grants r p (joined u n))) b
+      (subst (λ (a : Answer). AfterKey perform boot registry script held keys grants p taken u (λ l. Keys perform boot registry script held keys grants left (p + 1) (taken ++ (l ∷ [])) (left_by u) (place_by u)) a (refused_at perform boot registry script held keys grants r p (joined u n))) (sym e)
       (n, back_so back, refl))
 
 pub locks_is : (w : World) (registry script : List ℕ) (place : ℕ) (held keys grants : List ℕ) → Clear (rules w (acquire_locks registry script place held keys grants))

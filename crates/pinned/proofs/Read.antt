@@ -13,6 +13,7 @@ use Rattle.pinned.specs.Words.{Shape, IsFree, IsDamaged, IsLive, size, taken, fr
 use Rattle.pinned.specs.Checks.{checks}
 use Rattle.pinned.specs.Statements.{Passes}
 use Rattle.pinned.proofs.Decided.{clear_passed, passed_clear, matched, shape_there, shape_back, owned, owning}
+use Rattle.pinned.specs.Read.{WholePlainly, MayHappen, made_by}
 
 pub live_is : (w : World) (c s : ℕ) → Live w (hold_of c s) ↔ IsLive w c s
 live_is w c s = (owned w c s, owning w c s)
@@ -33,12 +34,6 @@ damaged_is w c = go (stands w.head.next (bit_at w.table c) (owner_at w.table c))
     go (is_held_lem p q r) = ((λ e. let z : ◌≡◌ {A = ℕ} 0 1 = cc in absurd (omega arith)), λ d. absurd (d.1 (p, q, r)))
     go (is_damaged f g) = ((λ e. ((λ p. f p.0 p.1), (λ p. g p.0 p.1 p.2))), λ d. refl)
 
--- what every history has at every point: the arena's shape, and no damaged cell
-pub record WholePlainly (w : World) : Type 0 where
-  pub shape : Shape w.head (length w.table)
-  pub bytes : length w.health ≡ w.head.headers
-  pub undamaged : (c : ℕ) → c < size w → IsDamaged w c → ⊥
-
 pub whole_is : (w : World) → Whole w ↔ WholePlainly w
 unfolding health_fits
 whole_is w = (
@@ -58,21 +53,6 @@ whole_is w = (
 pub passes_is : (w : World) (k : Call) → Clear (rules w k) ↔ Passes w k
 passes_is w k = (clear_passed (rules w k) (checks w k) (matched w k), passed_clear (rules w k) (checks w k) (matched w k))
 
--- ---- events
-
-abbrev pub MayHappen : World → Event → Type 0
-MayHappen w attempt_begun = Unit {0}
-MayHappen w boundary_run = Unit {0}
-MayHappen w yielded = Unit {0}
-MayHappen w spun = Unit {0}
-MayHappen w step_dropped = Unit {0}
-MayHappen w (took a c s) = ((c < size w) × IsFree w c) × ((s ≡ w.head.next) × (s < 4_294_967_295))
-MayHappen w (released a c s) = IsLive w c s
-MayHappen w (waiters_set c n) = c < size w
-MayHappen w (health_set i n) = (i < w.head.headers) × (n ≤ 1)
-MayHappen w (held_all_lem m) = Unit {0}
-MayHappen w (added m c v) = Unit {0}
-
 pub legal_is : (w : World) (e : Event) → Legal w e ↔ MayHappen w e
 legal_is w attempt_begun = ((λ l. l), λ l. l)
 legal_is w boundary_run = ((λ l. l), λ l. l)
@@ -85,19 +65,6 @@ legal_is w (waiters_set c n) = ((λ l. l), λ l. l)
 legal_is w (health_set i n) = ((λ l. l), λ l. l)
 legal_is w (held_all_lem m) = ((λ l. l), λ l. l)
 legal_is w (added m c v) = ((λ l. l), λ l. l)
-
-abbrev pub made_by : World → Event → World
-made_by w attempt_begun = w
-made_by w boundary_run = w
-made_by w yielded = w
-made_by w spun = w
-made_by w step_dropped = w
-made_by w (took a c s) = taken w c
-made_by w (released a c s) = freed w c
-made_by w (waiters_set c n) = with_waiters w c n
-made_by w (health_set i n) = with_health w i n
-made_by w (held_all_lem m) = w
-made_by w (added m c v) = w
 
 pub leads_to : (w : World) (e : Event) → MayHappen w e → after_event w e ≡ made_by w e
 unfolding set_cell set_waiters

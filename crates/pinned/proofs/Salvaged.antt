@@ -15,7 +15,8 @@ use Rattle.types.specs.declared.State.{State}
 use Rattle.history.specs.Tests.{Stands, stands, is_free_lem, is_held_lem, is_damaged, if_cases, differ}
 use Rattle.pinned.specs.Words.{Is, If◌Then◌Else◌, With, Shape}
 use Rattle.pinned.specs.Statements.{Mends, MendsBytes, Changes, LeftHeld, over, concluded, Salvager, SalvagesArena}
-use Rattle.pinned.proofs.Decided.{Decides, shape_decides, health_decides, or_decides, ltb_decides}
+use Rattle.pinned.specs.Decided.{Decides}
+use Rattle.pinned.proofs.Decided.{shape_decides, health_decides, or_decides, ltb_decides}
 use Rattle.pinned.specs.Same.{Same, is_same, if_same, with_same}
 
 mends_are : (next : ℕ) (t : List ℕ) → Mends next t (mended_table next t)

@@ -25,7 +25,7 @@ use Rattle.laws.specs.Sorting as law
 use Rattle.history.specs.World.{World}
 use Rattle.history.specs.Items.{Says, says, Clear, rules, perform, acquire_locks, acquire_sorted, unchanged_at}
 use Rattle.history.specs.Judged.{seen_as, as_asked, sorted_locks, made_so}
-use Rattle.history.specs.Statements.{answer_in_lem, buffer_in}
+use Rattle.history.specs.Statements.{answer_in, buffer_in}
 use Rattle.sorted_theory.specs.Statements.{AsLocks}
 use Rattle.sorted_theory.specs.Runs.{as_multilock}
 use Rattle.pinned.specs.Words.{logged, counted}
@@ -96,10 +96,10 @@ module _ (w : World) (registry script : List ℕ) (place : ℕ) (held keys grant
       let ks = sorted_keys w.head.buckets registry keys in
       let other : List ℕ = replicate (3 * length ss) 0 in
       let t = as_multilock w registry script place held keys grants other (k, f) (length-replicate {0} {A = ℕ} (3 * length ss) 0) in
-      (ss, sorted_so cs, (ks, keys_are keys cs ss, go (perform w (acquire_locks registry script place held ks other)) t.1 (answer_in_lem (perform w (acquire_locks registry script place held ks other))) refl))
+      (ss, sorted_so cs, (ks, keys_are keys cs ss, go (perform w (acquire_locks registry script place held ks other)) t.1 (answer_in (perform w (acquire_locks registry script place held ks other))) refl))
     where
       go : (n : Made (World × Says)) → AsLocks w.head.buckets w.head.boot registry keys grants (perform w (acquire_sorted registry script place held keys grants)) n
-          → (a : Answer) → answer_in_lem n ≡ a
+          → (a : Answer) → answer_in n ≡ a
           → Told perform w registry script place held keys grants (cells_asked w.head.buckets registry keys) (cells_sorted w.head.buckets registry keys) n a S
       go n m AllGranted e =
           let cs = cells_asked w.head.buckets registry keys in (

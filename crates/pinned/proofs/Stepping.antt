@@ -1,4 +1,5 @@
 -- The definitions' own steps are those of `Steps`.
+-- ---- a compare-and-set
 use Prim.Native.Nat.{ℕ, zero, suc, ◌+◌, ◌*◌, ◌-◌, ◌/◌, ◌≤◌, ◌<◌}
 use Rattle.std.specs.Prelude.{◌≡◌, Bool, ◌&&◌, ◌≢◌, ltb, eqb, length, get_or, take, if◌then◌else◌}
 use Rattle.std.proofs.Math.Path.{refl}
@@ -33,8 +34,7 @@ use Rattle.history.specs.Tests.{Stands, stands, is_free_lem, is_held_lem, is_dam
 use Rattle.pinned.specs.Words.{Is, If◌Then◌Else◌, After, Noting, logged, size, IsFree, IsLive, counted, taken, freed, with_waiters, with_health, StandsIn}
 use Rattle.pinned.specs.Steps.{Takes, DoneIf, Step, At, at, Runs, Boundary, releasing, AfterTake, Locks}
 use Rattle.pinned.proofs.Decided.{owned, owning, in_listed, listed_in}
-
--- ---- a compare-and-set
+use Rattle.pinned.specs.Stepping.{ReleasesEach}
 
 pub takes : (h : Head) (next : ℕ) (t g : List ℕ) (c : ℕ)
     → let m = take_of next t c in
@@ -280,16 +280,6 @@ module _ (h : Head) (script : List ℕ) where
               ),
             ),
           )
-
--- ---- leases given back, in steps: the first n are still to be released, and protected until then. The boundaries, and where it ends
-
-unfoldable pub ReleasesEach : ℕ → List ℕ → List Hold → (boundaries : ℕ) → At → Made (ℕ × At) → Type 0
-ReleasesEach zero script ls n a = Is (logged (n, a) [])
-ReleasesEach (suc left) script ls n a =
-    let l = get_or ls left (record { cell = 0; serial = 0 }) in
-    Noting (released by_caller l.cell l.serial)
-    (After (Boundary script (take left ls) (releasing a l.cell)) λ b.
-    ReleasesEach left script ls (n + 1) b)
 
 module _ (h : Head) (script : List ℕ) where
   pub back_is : (n : ℕ) (ls : List Hold) (r : Run) (t g : List ℕ)

@@ -1,5 +1,6 @@
 -- Ours does what `Statements` asks, and nothing else does: whatever meets it is ours, in what is seen and in its log, for every world and call. So what is
 -- proved of ours holds of it.
+-- ---- the calls
 use Rattle.std.specs.Prelude.{ℕ, ◌≡◌, refl, List, ◌∷◌, ◌↔◌}
 use Rattle.std.proofs.Common.{sym, ap, subst}
 use Rattle.model.specs.Log.{Made, Event}
@@ -25,8 +26,8 @@ use Rattle.pinned.proofs.AsCalls as as_calls
 use Rattle.pinned.specs.Exactly as exactly
 use Rattle.pinned.proofs.Histories as histories
 use Rattle.pinned.proofs.Read as reading
-
--- ---- the calls
+use Rattle.pinned.specs.Read as reading_said
+use Rattle.pinned.specs.Theorems.{SeesSo}
 
 pub meets : Meets perform
 meets = met.meets
@@ -49,11 +50,6 @@ so_of_any P p b m = subst P (sym (met.is_ours b m)) p
 -- "one compare-and-set takes a cell exactly if it is free and a serial remains"
 pub takes_exactly : (b : Build) → Meets b → exactly.TakesExactly b
 takes_exactly = exactly.takes_exactly
-
--- ---- of a function that has no log, as code has none: some log makes it meet. What is seen is then what ours sees
-
-abbrev pub SeesSo : (World → Call → World × Says) → Type 0
-SeesSo f = (log : World → Call → List Event) × Meets (λ w k. logged (f w k) (log w k))
 
 pub sees_so : SeesSo (λ w k. (perform w k).seen)
 sees_so = ((λ w k. (perform w k).log), meets)
@@ -143,11 +139,11 @@ passes_is = reading.passes_is
 pub live_is : (w : World) (c s : ℕ) → Live w (hold_of c s) ↔ IsLive w c s
 live_is = reading.live_is
 
-pub whole_is : (w : World) → Whole w ↔ reading.WholePlainly w
+pub whole_is : (w : World) → Whole w ↔ reading_said.WholePlainly w
 whole_is = reading.whole_is
 
-pub legal_is : (w : World) (e : Event) → Legal w e ↔ reading.MayHappen w e
+pub legal_is : (w : World) (e : Event) → Legal w e ↔ reading_said.MayHappen w e
 legal_is = reading.legal_is
 
-pub leads_to : (w : World) (e : Event) → reading.MayHappen w e → after_event w e ≡ reading.made_by w e
+pub leads_to : (w : World) (e : Event) → reading_said.MayHappen w e → after_event w e ≡ reading_said.made_by w e
 leads_to = reading.leads_to

@@ -6,7 +6,7 @@ use Rattle.types.specs.declared.Lease.{Lease}
 use Rattle.types.specs.declared.Refusal.{Refusal}
 use Rattle.types.specs.declared.Refusal.TheVariants.{BadShape, BadScript, BadHeld, TooMany, BadBinding, BadHeader, Poisoned, InvalidBucket, Damaged, SerialsSpent, SerializationFailure, NotHeld, Protected, Repeated, BadCrew, StaleBoot}
 use Rattle.history.specs.World.{World}
-use Rattle.history.specs.Items.{Call, try_acquire_lem, drop_lease, read_permission, competing_acquire, release_then_handoff, foreign_release, drop_preserving, acquire_preserving, environment, try_lock_lem, transactional, acquire_bucket, release_all_lem, acquire_locks, acquire_sorted, crew, crew_at_work_lem}
+use Rattle.history.specs.Items.{Call, try_acquire, drop_lease, read_permission, competing_acquire, release_then_handoff, foreign_release, drop_preserving, acquire_preserving, environment, try_lock, transactional, acquire_bucket, release_all, acquire_locks, acquire_sorted, crew, crew_at_work}
 use Rattle.pinned.specs.Words.{Shape, IsLive, StandsIn, size, holds}
 
 -- ---- the table: a refusal's number, and what it carries. Document 02, L1: "refusal 11 carries that reason besides 4,096"; L8: "StaleBoot (16), with its
@@ -101,13 +101,13 @@ lease_list leases cs = ((length leases % 3 ≢ 0) ⊎ (64 < length leases / 3)) 
 
 -- ---- 5, BadBinding: "a key's binding past the registry, seen before any attempt", with the "first position"
 
-abbrev pub binding_at_lem : (p : ℕ) (registry : List ℕ) (binding : ℕ) → Checks → Checks
-binding_at_lem p registry binding cs = (length registry ≤ binding) refuses BadBinding p else cs
+abbrev pub binding_at : (p : ℕ) (registry : List ℕ) (binding : ℕ) → Checks → Checks
+binding_at p registry binding cs = (length registry ≤ binding) refuses BadBinding p else cs
 
 -- `left` keys from position p on
 abbrev pub bindings : (left p : ℕ) (registry keys : List ℕ) → Checks → Checks
 bindings zero p registry keys cs = cs
-bindings (suc left) p registry keys cs = binding_at_lem p registry (get_or keys (2 * p) 0) (bindings left (p + 1) registry keys cs)
+bindings (suc left) p registry keys cs = binding_at p registry (get_or keys (2 * p) 0) (bindings left (p + 1) registry keys cs)
 
 -- ---- 8, InvalidBucket: "a cell number at least H x B in a call by cell", with "that number"
 
@@ -183,7 +183,7 @@ crew_is w counts cells turns =
 -- ---- each call's checks: "Checks in this order"; "Calls check only what they take."
 
 abbrev pub checks : World → Call → Checks
-checks w (try_acquire_lem c) = shape w then in_range w c then pass
+checks w (try_acquire c) = shape w then in_range w c then pass
 checks w (drop_lease l) = shape w then one_lease w l then pass
 checks w (read_permission l) = shape w then one_lease w l then pass
 checks w (competing_acquire l) = shape w then one_lease w l then pass
@@ -192,12 +192,12 @@ checks w (foreign_release held l) = shape w then held_list w held then one_lease
 checks w (drop_preserving held l) = shape w then held_list w held then one_lease w l then not_in held l then pass
 checks w (acquire_preserving held c) = shape w then held_list w held then in_range w c then pass
 checks w (environment script place held) = shape w then bytes w then script_is script place then held_list w held then pass
-checks w (try_lock_lem script place held c) = shape w then bytes w then script_is script place then held_list w held then in_range w c then pass
+checks w (try_lock script place held c) = shape w then bytes w then script_is script place then held_list w held then in_range w c then pass
 checks w (transactional registry script place held binding bucket) =
-    shape w then bytes w then entries registry then script_is script place then held_list w held then binding_at_lem 0 registry binding then pass
+    shape w then bytes w then entries registry then script_is script place then held_list w held then binding_at 0 registry binding then pass
 checks w (acquire_bucket registry script place held binding bucket) =
-    shape w then bytes w then entries registry then script_is script place then held_list w held then binding_at_lem 0 registry binding then pass
-checks w (release_all_lem script place leases) = shape w then bytes w then script_is script place then lease_list leases then each_given w 0 [] leases then pass
+    shape w then bytes w then entries registry then script_is script place then held_list w held then binding_at 0 registry binding then pass
+checks w (release_all script place leases) = shape w then bytes w then script_is script place then lease_list leases then each_given w 0 [] leases then pass
 checks w (acquire_locks registry script place held keys grants) =
     shape w then bytes w then entries registry then script_is script place then held_list w held then key_list held keys grants
     then bindings (length keys / 2) 0 registry keys then pass
@@ -205,4 +205,4 @@ checks w (acquire_sorted registry script place held keys grants) =
     shape w then bytes w then entries registry then script_is script place then held_list w held then key_list held keys grants
     then bindings (length keys / 2) 0 registry keys then pass
 checks w (crew counts cells turns) = shape w then bytes w then crew_is w counts cells turns
-checks w (crew_at_work_lem counts cells turns counters) = shape w then bytes w then one_a_cell w counters then crew_is w counts cells turns
+checks w (crew_at_work counts cells turns counters) = shape w then bytes w then one_a_cell w counters then crew_is w counts cells turns

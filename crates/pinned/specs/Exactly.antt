@@ -7,7 +7,7 @@ use Rattle.types.specs.declared.Answer.{Answer}
 use Rattle.types.specs.declared.Answer.TheVariants.{Granted}
 use Rattle.types.specs.declared.Lease.{Lease}
 use Rattle.history.specs.World.{World}
-use Rattle.history.specs.Items.{Build, Says, try_acquire_lem}
+use Rattle.history.specs.Items.{Build, Says, try_acquire}
 use Rattle.pinned.specs.Words.{logged, IsFree, IsHeld, IsDamaged, bit, owner}
 use Rattle.pinned.specs.Steps.{Takes}
 use Rattle.pinned.specs.Statements.{Passes, Meets}
@@ -18,8 +18,8 @@ next_lease w c = record { cell = c; serial = w.head.next; boot = w.head.boot }
 
 abbrev pub TakesExactly : Build → Type 0
 TakesExactly b =
-    (w : World) (c : ℕ) (l : Lease) → Passes w (try_acquire_lem c)
-    → ((b w (try_acquire_lem c)).seen.1.answer ≡ Granted l) ↔ (IsFree w c × (w.head.next < 4_294_967_295) × (l ≡ next_lease w c))
+    (w : World) (c : ℕ) (l : Lease) → Passes w (try_acquire c)
+    → ((b w (try_acquire c)).seen.1.answer ≡ Granted l) ↔ (IsFree w c × (w.head.next < 4_294_967_295) × (l ≡ next_lease w c))
 
 -- neither damaged nor held
 left_free : (w : World) (c : ℕ) → (IsDamaged w c → ⊥) → (IsHeld w c → ⊥) → IsFree w c
@@ -46,9 +46,9 @@ grants w c l t (inr (d, inr (h, inr (s, e)))) =
 
 pub takes_exactly : (b : Build) → Meets b → TakesExactly b
 takes_exactly b m w c l p =
-    let x = m.beyond w (try_acquire_lem c) p in
+    let x = m.beyond w (try_acquire c) p in
     let t = x.1.0 in
-    let same : (b w (try_acquire_lem c)).seen.1.answer ≡ t.seen.1 =
+    let same : (b w (try_acquire c)).seen.1.answer ≡ t.seen.1 =
     ap (λ (y : Made (World × Says)). y.seen.1.answer) x.2 ∙ ap (λ (y : Made (World × Says)). y.seen.1.answer) x.1.2 in
     let g = grants w c l t x.1.1 in
     ((λ e. g.0 (sym same ∙ e)), λ f. same ∙ g.1 f)

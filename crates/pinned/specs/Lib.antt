@@ -4,3 +4,9 @@ pub mod Steps
 pub mod Statements
 pub mod Same
 pub mod Exactly
+pub mod Beside
+pub mod Decided
+pub mod Examples
+pub mod Read
+pub mod Stepping
+pub mod Theorems

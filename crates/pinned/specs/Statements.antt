@@ -19,7 +19,7 @@ use Rattle.types.specs.declared.SalvageAnswer.{SalvageAnswer}
 use Rattle.types.specs.declared.SalvageAnswer.TheVariants as salvaged
 use Rattle.types.specs.declared.SalvageReply.{SalvageReply}
 use Rattle.history.specs.World.{World}
-use Rattle.history.specs.Items.{Build, Stepper, Says, Call, try_acquire_lem, drop_lease, read_permission, competing_acquire, release_then_handoff, foreign_release, drop_preserving, acquire_preserving, environment, try_lock_lem, transactional, acquire_bucket, release_all_lem, acquire_locks, acquire_sorted, crew, crew_at_work_lem}
+use Rattle.history.specs.Items.{Build, Stepper, Says, Call, try_acquire, drop_lease, read_permission, competing_acquire, release_then_handoff, foreign_release, drop_preserving, acquire_preserving, environment, try_lock, transactional, acquire_bucket, release_all, acquire_locks, acquire_sorted, crew, crew_at_work}
 use Rattle.history.specs.Statements.{CrewBuild, CrewAtWorkBuild}
 use Rattle.pinned.specs.Words.{Result, Shape, Is, If◌Then◌Else◌, With, Gives, Does, Noting, SeenAs, IfBusy, logged, arena, head_of_lem, health_byte, freed, holds, words, counted, says}
 use Rattle.pinned.specs.Checks.{First, Passed, checks}
@@ -47,7 +47,7 @@ place_by m = m.seen.1.place
 
 -- what a call was given, and a refusal gives back: the place in its script and its grant buffer, 0 and empty where it has none
 abbrev pub as_given : Call → ℕ × List ℕ
-as_given (try_acquire_lem c) = (0, [])
+as_given (try_acquire c) = (0, [])
 as_given (drop_lease l) = (0, [])
 as_given (read_permission l) = (0, [])
 as_given (competing_acquire l) = (0, [])
@@ -56,14 +56,14 @@ as_given (foreign_release held l) = (0, [])
 as_given (drop_preserving held l) = (0, [])
 as_given (acquire_preserving held c) = (0, [])
 as_given (environment script place held) = (place, [])
-as_given (try_lock_lem script place held c) = (place, [])
+as_given (try_lock script place held c) = (place, [])
 as_given (transactional registry script place held binding bucket) = (place, [])
 as_given (acquire_bucket registry script place held binding bucket) = (place, [])
-as_given (release_all_lem script place leases) = (place, [])
+as_given (release_all script place leases) = (place, [])
 as_given (acquire_locks registry script place held keys grants) = (place, grants)
 as_given (acquire_sorted registry script place held keys grants) = (place, grants)
 as_given (crew counts cells turns) = (0, [])
-as_given (crew_at_work_lem counts cells turns counters) = (0, [])
+as_given (crew_at_work counts cells turns counters) = (0, [])
 
 -- ---- one call and then another: the counts add up, the logs follow one another, and the second's answer stands
 
@@ -85,7 +85,7 @@ ByKey b w registry script place held binding bucket =
     If w.head.headers ≤ header Then Does attempt_begun (refused_key w place (BadHeader header))
     Else If health_byte w header ≢ 0 Then Does attempt_begun (refused_key w place (Poisoned header))
     Else If w.head.buckets ≤ bucket Then Does attempt_begun (refused_key w place (InvalidBucket bucket))
-    Else Is (b w (try_lock_lem script place held (header * w.head.buckets + bucket)))
+    Else Is (b w (try_lock script place held (header * w.head.buckets + bucket)))
 
 -- ---- `acquire_index_bucket`: "attempts 0 to 4,095", each a `transactional_try_lock_bucket`, and `environment` once or twice after each that is Busy
 
@@ -138,13 +138,13 @@ module _ (b : Build) (boot : ℕ) (registry script held keys grants : List ℕ) 
   locking p taken w place = b w (acquire_bucket registry script place (held ++ words boot taken) (get_or keys (2 * p) 0) (get_or keys (2 * p + 1) 0))
 
   -- "multi-lock adds the key's position", "the grant buffer is unchanged"
-  abbrev pub refused_at_lem : Refusal → (p : ℕ) → Result → Result
-  refused_at_lem r p m = logged (left_by m, says (RefusedAt r p) m.seen.1.counts (place_by m) grants) m.log
+  abbrev pub refused_at : Refusal → (p : ℕ) → Result → Result
+  refused_at r p m = logged (left_by m, says (RefusedAt r p) m.seen.1.counts (place_by m) grants) m.log
 
   -- behind the key at position p, which did m and answered so; `more` is what comes of the keys behind it. A key is granted or refused
   abbrev pub AfterKey : (p : ℕ) → List Hold → (m : Result) → (Hold → Result → Type 0) → Answer → Result → Type 0
   AfterKey p taken m more (Granted l) = With (more (record { cell = l.cell; serial = l.serial })) λ n. Is (joined m n)
-  AfterKey p taken m more (Refused r) = With (GivesBack b boot script held taken (left_by m) (place_by m)) λ n. Is (refused_at_lem r p (joined m n))
+  AfterKey p taken m more (Refused r) = With (GivesBack b boot script held taken (left_by m) (place_by m)) λ n. Is (refused_at r p (joined m n))
   AfterKey p taken m more (Busy why) = λ x. ⊥
   AfterKey p taken m more Done = λ x. ⊥
   AfterKey p taken m more (Cell c) = λ x. ⊥
@@ -242,40 +242,40 @@ Passes w k = Passed (checks w k)
 -- beyond its checks, each call
 abbrev pub Beyond : Build → World → Call → Result → Type 0
 -- "in order, damaged: Damaged; held: Busy; no serial: SerialsSpent; else the cell gets bit 1 and the next serial, and next rises by 1."
-Beyond b w (try_acquire_lem c) = Noting attempt_begun (SeenAs attempted (Takes w c))
+Beyond b w (try_acquire c) = Noting attempt_begun (SeenAs attempted (Takes w c))
 -- "`drop_lease` is one release and no boundary"
 Beyond b w (drop_lease l) = Does (released by_caller l.cell l.serial) (plainly (freed w l.cell) Done)
 -- "`read_permission` gives the lease's cell or 12."
 Beyond b w (read_permission l) = Gives (plainly w (Cell l.cell))
 -- "12 if the lease is not live, else one `try_acquire` of its cell"
-Beyond b w (competing_acquire l) = Is (b w (try_acquire_lem l.cell))
+Beyond b w (competing_acquire l) = Is (b w (try_acquire l.cell))
 -- "12, else release and `try_acquire`."
 Beyond b w (release_then_handoff l) =
     let x = b w (drop_lease l) in
-    let y = b (left_by x) (try_acquire_lem l.cell) in
+    let y = b (left_by x) (try_acquire l.cell) in
     Is (joined x y)
 -- "3, 12, 13, then a `try_acquire` that is Busy, a release, a `try_acquire`."
 Beyond b w (foreign_release held l) =
-    let x = b w (try_acquire_lem l.cell) in
+    let x = b w (try_acquire l.cell) in
     let y = b (left_by x) (drop_lease l) in
-    let z = b (left_by y) (try_acquire_lem l.cell) in
+    let z = b (left_by y) (try_acquire l.cell) in
     Is (joined x (joined y z))
 -- "`drop_preserving_borrows` first refuses a lease in its held list", and is `drop_lease`
 Beyond b w (drop_preserving held l) = Is (b w (drop_lease l))
 -- "`acquire_preserving_borrows` is `try_acquire` after the held list's check"
-Beyond b w (acquire_preserving held c) = Is (b w (try_acquire_lem c))
+Beyond b w (acquire_preserving held c) = Is (b w (try_acquire c))
 -- "`environment` and `environment_for_borrows` are one boundary."
 Beyond b w (environment script place held) = SeenAs bounded (Boundary script (holds held) (at w place 0))
 -- "boundary; waiters not 0: Busy; boundary; try_acquire; boundary (protecting the new lease); waiters not 0: release it, Busy; else granted."
 -- "`other_mutex_preserves_leases` is `try_lock`"
-Beyond b w (try_lock_lem script place held c) = Locks script (holds held) (at w place 0) c
+Beyond b w (try_lock script place held c) = Locks script (holds held) (at w place 0) c
 -- "header from the registry .., then health (Poisoned), then bucket .., then `try_lock`."
 Beyond b w (transactional registry script place held binding bucket) = ByKey b w registry script place held binding bucket
 -- "attempts 0 to 4,095". Before the first attempt there is no last one: what stands for its reason is never given
 Beyond b w (acquire_bucket registry script place held binding bucket) =
     Retries (λ v p. b v (transactional registry script p held binding bucket)) (λ v p. b v (environment script p held)) 4096 0 reason.Before w place
 -- "last first, a boundary after each release"
-Beyond b w (release_all_lem script place leases) = GivesBack b w.head.boot script [] (holds leases) w place
+Beyond b w (release_all script place leases) = GivesBack b w.head.boot script [] (holds leases) w place
 -- "keys in the order given"
 Beyond b w (acquire_locks registry script place held keys grants) = Keys b w.head.boot registry script held keys grants (length keys / 2) 0 [] w place
 -- document 02, L4: "Keys in any order, and doubles."
@@ -283,7 +283,7 @@ Beyond b w (acquire_sorted registry script place held keys grants) = AnyOrder b 
 -- "a member that has not yet held all its cells does one try_lock .. one that has held all releases the last it still holds". Its numbers: `Crews`, below
 Beyond b w (crew counts cells turns) = SeenAs (λ v. plainly v.world Done) (Turns (λ n. 0) counts cells (gathered w []) turns)
 -- document 02, L13: "Between holding all and releasing, a member spends one moving turn a cell". Its numbers and counters: `Works`, below
-Beyond b w (crew_at_work_lem counts cells turns counters) = SeenAs (λ v. plainly v.world Done) (Turns (λ n. n) counts cells (gathered w counters) turns)
+Beyond b w (crew_at_work counts cells turns counters) = SeenAs (λ v. plainly v.world Done) (Turns (λ n. n) counts cells (gathered w counters) turns)
 
 pub record Meets (b : Build) : Type 0 where
   -- "Checks in this order; the first that applies is given, and only then."; such a refusal leaves all as it was, "all counts 0", and has no event
@@ -318,9 +318,9 @@ pub record Crews (f : CrewBuild) : Type 0 where
       (f h t g counts cells turns)
 
 pub record Works (f : CrewAtWorkBuild) : Type 0 where
-  pub refused : (h : Head) (t g counts cells turns counters : List ℕ) (r : Refusal) → First (checks (arena h t g) (crew_at_work_lem counts cells turns counters)) r
+  pub refused : (h : Head) (t g counts cells turns counters : List ℕ) (r : Refusal) → First (checks (arena h t g) (crew_at_work counts cells turns counters)) r
       → Gives (none_moved h r, (t, counters)) (f h t g counts cells turns counters)
-  pub beyond : (h : Head) (t g counts cells turns counters : List ℕ) → Passes (arena h t g) (crew_at_work_lem counts cells turns counters)
+  pub beyond : (h : Head) (t g counts cells turns counters : List ℕ) → Passes (arena h t g) (crew_at_work counts cells turns counters)
       → SeenAs (λ v. (replying (λ n. n) counts v, (v.world.table, v.counters)))
       (Turns (λ n. n) counts cells (gathered (arena h t g) counters) turns) (f h t g counts cells turns counters)
 

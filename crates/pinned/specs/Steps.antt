@@ -75,15 +75,15 @@ abbrev pub releasing : At → ℕ → At
 releasing a c = at (freed a.world c) a.place a.dropped
 
 -- the cell's header: "Cell number = header x B + bucket."
-abbrev pub header_of_lem : World → ℕ → ℕ
-header_of_lem w c = c / w.head.buckets
+abbrev pub header_of : World → ℕ → ℕ
+header_of w c = c / w.head.buckets
 
 -- behind the third boundary. Document 02, L3: "Read it again after the third boundary, before the waiters. If poisoned, release the lease and refuse with 7;
 -- the serial stays spent."; L1: "waiters seen after it. The last one also gives the serial that was spent."
 abbrev pub LooksAgain : At → ℕ → Lease → Result → Type 0
 LooksAgain b c l =
-    If health_byte b.world (header_of_lem b.world c) ≢ 0
-    Then Does (released by_caller c l.serial) (ended (releasing b c) 3 (Refused (Poisoned (header_of_lem b.world c))))
+    If health_byte b.world (header_of b.world c) ≢ 0
+    Then Does (released by_caller c l.serial) (ended (releasing b c) 3 (Refused (Poisoned (header_of b.world c))))
     Else If waiters b.world c ≢ 0 Then Does (released by_caller c l.serial) (ended (releasing b c) 3 (Busy (reason.After l.serial)))
     Else Gives (ended b 3 (Granted l))
 
@@ -150,7 +150,7 @@ AfterTry v m count low k w x =
 -- "one try_lock with no script on its next cell, after a health reading of that cell's header"
 abbrev pub TryTurn : Crew → (m count low k c : ℕ) → Made Crew → Type 0
 TryTurn v m count low k c =
-    If health_byte v.world (header_of_lem v.world c) ≢ 0 Then Gives (idled v v.world)
+    If health_byte v.world (header_of v.world c) ≢ 0 Then Gives (idled v v.world)
     Else After (Locks [] [] (at v.world 0 0) c) λ x. AfterTry v m count low k x.0 x.1.answer
 
 -- the turn of member m, who has `count` cells from the place `start` of the run on. "one holding none after that, or with no cells, is finished and idles"; "a

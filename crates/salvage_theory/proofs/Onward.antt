@@ -17,7 +17,8 @@ use Rattle.history.specs.Statements.{rescued, Begins, NoStart, Ledger}
 use Rattle.history.specs.Tests.{differ, state_held, Alive, alive, live}
 use Rattle.history.specs.Events.{Fit, fit, good}
 use Rattle.history.proofs.Writers.{parted}
-use Rattle.history.proofs.Logs.{Kept, fit_now, spent_now}
+use Rattle.history.specs.Logs.{Kept}
+use Rattle.history.proofs.Logs.{fit_now, spent_now}
 use Rattle.history.proofs.Calls.{call_kept}
 use Rattle.history.specs.Salvages.{Came, bad, full, done, came, StandsNow, came_state, now_whole, now_kept}
 use Rattle.history.proofs.Courses.{Stretch, foreign_kept, begun, run_stretch, ledger, origin_kept, not_prepared, not_salvaged, refused_stays, salvage_refused_stays}

@@ -65,11 +65,11 @@ no_room h t g report list e = go (ltb (length report / 3) (entries_of h t g)) re
     go true f e = inl (omega (arith, ltb-true (length report / 3) (entries_of h t g) f, words_are h t g report list))
     go false f e = inr (ltb-true _ _ e)
 
-is_full_lem : (h : Head) (t g report list : List ℕ) → NoRoom h t g report list → is_report_full h t g report list ≡ true
+is_full : (h : Head) (t g report list : List ℕ) → NoRoom h t g report list → is_report_full h t g report list ≡ true
 unfolding is_report_full
-is_full_lem h t g report list (inl l) =
+is_full h t g report list (inl l) =
     rw (lt-ltb (length report / 3) (entries_of h t g) (omega (arith, words_are h t g report list)))
-is_full_lem h t g report list (inr l) = go (ltb (length report / 3) (entries_of h t g))
+is_full h t g report list (inr l) = go (ltb (length report / 3) (entries_of h t g))
   where
     go : (b : Bool) → (b || ltb (length list) (length (left_held h.next (cells_of h) t))) ≡ true
     go true = refl
@@ -90,7 +90,7 @@ report_full_exactly h t g report list =
     back : Came h t g report list → (fits h t g ≡ true) × NoRoom h t g report list → answer_in (salvage_of h t g report list) ≡ ReportFull
     back (bad f p) a = let z : false ≡ true = sym f ∙ a.0 in cc
     back (full f k p) a = ap answer_in p
-    back (done f k p) a = let z : false ≡ true = sym k ∙ is_full_lem h t g report list a.1 in cc
+    back (done f k p) a = let z : false ≡ true = sym k ∙ is_full h t g report list a.1 in cc
 
 -- ---- the report
 

@@ -12,12 +12,7 @@ use Rattle.setpoint.specs.declared.Setpoint.TheVariants.{Pressure, Speed, Valve}
 use Rattle.setpoint.specs.declared.Encoded.TheVariants.{Written, NotFinite}
 use Rattle.setpoint.specs.declared.Decoded.{Decoded}
 use Rattle.setpoint.specs.declared.Decoded.TheVariants.{Setting, Damaged}
-
--- what the types say of a setpoint: an f32 is a value of binary32, a u32 is below 2 ^ 32
-abbrev pub Held : Setpoint → Type 0
-Held (Pressure x) = T (fits binary32 x)
-Held (Speed n) = n < 4294967296
-Held (Valve b) = Unit
+use Rattle.setpoint.specs.RoundTrip.{Held, Means, Sound, whole_in, Bytes}
 
 -- ---- what was written reads back
 
@@ -77,17 +72,6 @@ setting_cases P k w pressure speed shut wide none =
     go false false true f false false p1 q2 r3 f1 z0 o1 = none
     go false false false f z o p1 q2 r3 f1 z0 o1 = none
 
--- the setpoint that a kind and a word mean
-pub record Means (s : Setpoint) (k w : ℕ) : Type 0 where
-  pub held : Held s
-  pub whole : has_body s ≡ true
-  pub kind : kind_of s ≡ k
-  pub word : word_of s ≡ w
-
-abbrev Sound : Decoded → ℕ → ℕ → Type 0
-Sound (Setting s) k w = Means s k w
-Sound Damaged k w = Unit
-
 pub setting_means : (k w : ℕ) (s : Setpoint) → w < 4294967296 → setting_of k w ≡ Setting s → Means s k w
 setting_means k w s l e =
     subst (λ (o : Decoded). Sound o k w) e
@@ -98,19 +82,10 @@ setting_means k w s l e =
     (λ p z. record { held = tt; whole = refl; kind = sym p; word = sym z })
     tt)
 
--- what is read has a body, whatever the numbers: a caller may take its word
-abbrev pub whole_in : Decoded → Bool
-whole_in (Setting s) = has_body s
-whole_in Damaged = true
-
 pub setting_whole : (d : Decoded) (k w : ℕ) → d ≡ setting_of k w → whole_in d ≡ true
 setting_whole d k w e =
     ap whole_in e
     ∙ setting_cases (λ (o : Decoded). whole_in o ≡ true) k w (λ p f. finite_bits_lem w ∙ f) (λ p. refl) (λ p z. refl) (λ p z. refl) refl
-
--- five bytes, each below 256
-abbrev Bytes : ℕ → ℕ → ℕ → ℕ → Type 0
-Bytes a b c d = (a < 256) × (b < 256) × (c < 256) × (d < 256)
 
 bytes_mean : (k a b c d : ℕ) (s : Setpoint) → Bytes a b c d → decode_of (k ∷ a ∷ b ∷ c ∷ d ∷ []) ≡ Setting s → Means s k (join_of a b c d)
 unfolding decode_of

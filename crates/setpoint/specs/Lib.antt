@@ -1,3 +1,4 @@
 pub mod Codec
 pub mod Float32
 pub mod Cases
+pub mod RoundTrip

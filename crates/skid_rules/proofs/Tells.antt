@@ -1,4 +1,5 @@
 -- The words lose nothing: equal words are equal replies.
+-- ---- the way back
 use Rattle.std.specs.Prelude.{ℕ, zero, suc, ◌+◌, ◌<◌, ◌*◌, ◌-◌, ◌≡◌, refl, List, [], ◌∷◌, ◌++◌, true, eqb, length, get_or, take, drop, if◌then◌else◌}
 use Rattle.std.proofs.Common.{sym, ap, ◌∙◌, arith, add-one, drop_of_length-le, drop-cons}
 use Rattle.model.specs.Arena.{head_of, lease_of}
@@ -20,7 +21,8 @@ use Rattle.types.specs.declared.SalvageAnswer.{SalvageAnswer}
 use Rattle.types.specs.declared.SalvageAnswer.TheVariants as salvaged
 use Rattle.types.specs.declared.SalvageReply.{SalvageReply}
 use Rattle.setpoint.specs.Codec.{has_body, setting_of, decode_of}
-use Rattle.setpoint.proofs.RoundTrip.{Held, setting_back, setting_means, join_small}
+use Rattle.setpoint.specs.RoundTrip.{Held}
+use Rattle.setpoint.proofs.RoundTrip.{setting_back, setting_means, join_small}
 use Rattle.setpoint.specs.declared.Decoded.{Decoded}
 use Rattle.setpoint.specs.declared.Decoded.TheVariants as decoded
 use Rattle.book_rules.specs.Calls.{read_as, line_read, read_version_of, read_setpoint_of}
@@ -38,21 +40,7 @@ use Rattle.wave_rules.specs.declared.Undumped.{Undumped}
 use Rattle.wave_rules.specs.declared.Undumped.TheVariants as undumped
 use Rattle.skid_rules.specs.Laws.{six}
 use Rattle.skid_rules.specs.Words.{busy_words, answer_words, reply_words, script_reply_words, each_of, crew_words, salvaged_words, salvage_words, book_number, book_words, dumped_words, undumped_words, told}
-
--- ---- the way back
-
--- the answer that six words tell
-abbrev pub answer_in : List ℕ → Answer
-answer_in ws =
-    let kind = get_or ws 0 0 in
-    let why = reason_of (get_or ws 4 0) (get_or ws 5 0) in
-    if eqb kind 0 then Done
-    else if eqb kind 1 then Cell (get_or ws 1 0)
-    else if eqb kind 2 then Granted (lease_of (get_or ws 1 0) (get_or ws 2 0) (get_or ws 3 0))
-    else if eqb kind 3 then AllGranted
-    else if eqb kind 4 then Busy why
-    else if eqb kind 5 then Refused (refusal_with why (get_or ws 1 0) (get_or ws 2 0))
-    else RefusedAt (refusal_with why (get_or ws 1 0) (get_or ws 2 0)) (get_or ws 3 0)
+use Rattle.skid_rules.specs.Tells.{answer_in, script_reply_in, reply_in, crew_in, Sixteen, salvaged_in, salvage_in, book_fault, setting_in, book_in, Whole, dumped_in, undumped_in}
 
 pub answer_back : (a : Answer) → answer_in (answer_words a) ≡ a
 unfolding busy_words
@@ -63,31 +51,6 @@ answer_back AllGranted = refl
 answer_back (Busy why) = ap Busy (reason_is why)
 answer_back (Refused r) = ap Refused (refusal_is r)
 answer_back (RefusedAt r p) = ap (λ (x : Refusal). RefusedAt x p) (refusal_is r)
-
--- the reply that fifteen words tell
-abbrev pub script_reply_in : List ℕ → ScriptReply
-script_reply_in ws =
-    record {
-      head = head_of (get_or ws 0 0) (get_or ws 1 0) (get_or ws 2 0) (get_or ws 3 0);
-      place = get_or ws 4 0;
-      counts = counts_of (get_or ws 5 0) (get_or ws 6 0) (get_or ws 7 0) (get_or ws 8 0);
-      answer = answer_in (drop 9 ws);
-    }
-
-abbrev pub reply_in : List ℕ → Reply
-reply_in ws = record { head = (script_reply_in ws).head; counts = (script_reply_in ws).counts; answer = (script_reply_in ws).answer }
-
--- the crew's reply that forty-nine words tell
-abbrev pub crew_in : List ℕ → CrewReply
-crew_in ws =
-    record {
-      head = (script_reply_in ws).head;
-      moving = get_or ws 15 0;
-      idle = get_or ws 16 0;
-      taken = take 16 (drop 17 ws);
-      released = drop 33 ws;
-      answer = answer_in (take 6 (drop 9 ws));
-    }
 
 script_reply_back : (r : ScriptReply) → script_reply_in (script_reply_words r) ≡ r
 unfolding script_reply_words
@@ -104,11 +67,6 @@ reply_tells r s e = sym (reply_back r) ∙ ap reply_in e ∙ reply_back s
 
 pub script_reply_tells : (r s : ScriptReply) → script_reply_words r ≡ script_reply_words s → r ≡ s
 script_reply_tells r s e = sym (script_reply_back r) ∙ ap script_reply_in e ∙ script_reply_back s
-
--- the crew's, where each reply has its two sixteens, as every reply of the call has
-pub record Sixteen (r : CrewReply) : Type 0 where
-  pub taken : length r.taken ≡ 16
-  pub released : length r.released ≡ 16
 
 either : {A : Type 0} (P : A → Type 0) (k : Check) (f : Refusal → A) (a : A) → ((r : Refusal) → P (f r)) → P a → P (judge k f a)
 either P Fine f a p q = q
@@ -147,13 +105,6 @@ crew_back r x =
 pub crew_tells : (r s : CrewReply) → Sixteen r → Sixteen s → crew_words r ≡ crew_words s → r ≡ s
 crew_tells r s x y e = sym (crew_back r x) ∙ ap crew_in e ∙ crew_back s y
 
--- the salvage's answer that three words tell, and its reply that seven do
-abbrev pub salvaged_in : List ℕ → SalvageAnswer
-salvaged_in ws = if eqb (get_or ws 0 0) 0 then salvaged.Done (get_or ws 1 0) (get_or ws 2 0) else if eqb (get_or ws 1 0) 1 then salvaged.BadShape else salvaged.ReportFull
-
-abbrev pub salvage_in : List ℕ → SalvageReply
-salvage_in ws = record { head = head_of (get_or ws 0 0) (get_or ws 1 0) (get_or ws 2 0) (get_or ws 3 0); answer = salvaged_in (drop 4 ws) }
-
 salvaged_back : (a : SalvageAnswer) → salvaged_in (salvaged_words a) ≡ a
 salvaged_back (salvaged.Done changed held) = refl
 salvaged_back salvaged.BadShape = refl
@@ -166,19 +117,6 @@ salvage_back r = ap (λ (a : SalvageAnswer). record { head = r.head; answer = a 
 pub salvage_tells : (r s : SalvageReply) → salvage_words r ≡ salvage_words s → r ≡ s
 salvage_tells r s e = sym (salvage_back r) ∙ ap salvage_in e ∙ salvage_back s
 
--- the book's refusal that a number tells
-abbrev pub book_fault : ℕ → BookRefusal
-book_fault n =
-    if eqb n 1 then fault.BadShape
-    else if eqb n 16 then fault.StaleBoot
-    else if eqb n 12 then fault.NotHeld
-    else if eqb n 101 then fault.BadSlot
-    else if eqb n 102 then fault.NotFinite
-    else if eqb n 103 then fault.DamagedBook
-    else if eqb n 104 then fault.VersionsSpent
-    else if eqb n 107 then fault.BookFull
-    else fault.NeverWritten
-
 fault_back : (r : BookRefusal) → book_fault (book_number r) ≡ r
 fault_back fault.BadShape = refl
 fault_back fault.BadSlot = refl
@@ -189,27 +127,6 @@ fault_back fault.DamagedBook = refl
 fault_back fault.VersionsSpent = refl
 fault_back fault.BookFull = refl
 fault_back fault.NeverWritten = refl
-
--- the setting that a kind, a word and a version tell; words that tell none are not a setting's
-abbrev pub setting_in : Decoded → ℕ → BookAnswer
-setting_in (decoded.Setting s) v = book.Setting s v
-setting_in decoded.Damaged v = book.Done
-
--- the book's answer that four words tell
-abbrev pub book_in : List ℕ → BookAnswer
-book_in ws =
-    let kind = get_or ws 0 0 in
-    if eqb kind 0 then book.Done
-    else if eqb kind 1 then book.Written (get_or ws 1 0) (get_or ws 2 0)
-    else if eqb kind 2 then setting_in (setting_of (get_or ws 2 0) (get_or ws 3 0)) (get_or ws 1 0)
-    else book.Refused (book_fault (get_or ws 1 0))
-
--- a setting whose setpoint is a value of its type and has a body; every other answer
-abbrev pub Whole : BookAnswer → Type 0
-Whole book.Done = Unit
-Whole (book.Written v moved) = Unit
-Whole (book.Setting s v) = Held s × (has_body s ≡ true)
-Whole (book.Refused r) = Unit
 
 book_back : (a : BookAnswer) → Whole a → book_in (book_words a) ≡ a
 unfolding book_words
@@ -245,17 +162,6 @@ read_whole h b slot bytes = version_whole h b slot (newest_at b slot) bytes
 
 pub book_tells : (a b : BookAnswer) → Whole a → Whole b → book_words a ≡ book_words b → a ≡ b
 book_tells a b x y e = sym (book_back a x) ∙ ap book_in e ∙ book_back b y
-
--- the waveform's answers that three words tell
-abbrev pub dumped_in : List ℕ → Dumped
-dumped_in ws =
-    let kind = get_or ws 0 0 in
-    if eqb kind 0 then dumped.Written (get_or ws 1 0) else if eqb kind 1 then dumped.BadScript else if eqb kind 2 then dumped.TooWide else dumped.NoRoom
-
-abbrev pub undumped_in : List ℕ → Undumped
-undumped_in ws =
-    let kind = get_or ws 0 0 in
-    if eqb kind 0 then undumped.Read (get_or ws 1 0) (get_or ws 2 0) else if eqb kind 3 then undumped.NoRoom else undumped.BadLine (get_or ws 1 0)
 
 dumped_back : (a : Dumped) → dumped_in (dumped_words a) ≡ a
 unfolding dumped_words

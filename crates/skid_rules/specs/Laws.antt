@@ -15,7 +15,8 @@ use Rattle.setpoint.specs.declared.Setpoint.{Setpoint}
 use Rattle.book_rules.specs.Layout.{newest_at}
 use Rattle.book_rules.specs.Calls.{prepare_book_of, write_setpoint_of, read_setpoint_of}
 use Rattle.book_rules.specs.Outcomes.{body_read}
-use Rattle.book_rules.proofs.Outcomes.{Prepared, was_prepared, not_prepared, preparing_is, Outcome, done, full, refused, writing_is, body_read_lem}
+use Rattle.book_rules.specs.Outcomes.{Prepared, was_prepared, not_prepared}
+use Rattle.book_rules.proofs.Outcomes.{preparing_is, Outcome, done, full, refused, writing_is, body_read_lem}
 use Rattle.book_rules.specs.declared.BookAnswer.{BookAnswer}
 use Rattle.skid_rules.specs.Words.{busy_words, answer_words, result_words, each_of, crew_words, salvaged_words, salvage_words}
 

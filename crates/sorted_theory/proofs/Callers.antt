@@ -1,4 +1,5 @@
 -- Demand 3 for callers that ask by keys: their sorted lists make a crew (the statements are in specs/Callers.antt), and an example.
+-- ---- the lists of a crew
 use Rattle.std.specs.Prelude.{ℕ, zero, suc, ◌+◌, ◌*◌, ◌-◌, ◌/◌, ◌≤◌, ◌<◌, ◌≡◌, refl, List, [], ◌∷◌, ◌++◌, true, false, not, length, get_or, take, drop, replicate}
 use Rattle.std.proofs.Common.{sym, ap, ◌∙◌, subst, inl, inr, arith, length-append, take_at, le-leb, le-ltb, eq-eqb}
 use Rattle.std.proofs.Math.Decide.{dec_lt}
@@ -24,22 +25,21 @@ use Rattle.history.proofs.Shared.{asked_length, asked_at, first_place, first_pla
 use Rattle.crew_theory.specs.Statements.{In, flat, UnfinishedSaid, RoundsSaid, RoundsAfter, RoundsAtWork, Open, Enough, EnoughAtWork, Completed, Complete, tabled}
 use Rattle.crew_theory.proofs.Theorems.{demand_3, demand_3_at_work}
 use Rattle.sorted_theory.specs.Keys.{keys_inside}
-use Rattle.sorted_theory.specs.Callers.{Caller, asks, wants, counts_of_lem, cells_of_lem, All, AsksWell, Crowd, Calm, ReadyFor, CallersAreCrew, ListsAre, CallersFinish, CallersFinishAtWork}
+use Rattle.sorted_theory.specs.Callers.{Caller, asks, wants, counts_of, cells_of_lem, All, AsksWell, Crowd, Calm, ReadyFor, CallersAreCrew, ListsAre, CallersFinish, CallersFinishAtWork}
+use Rattle.sorted_theory.specs.Callers.{bench, two_callers, table, health, eight}
 
--- ---- the lists of a crew
-
-members_are : (b : ℕ) (cs : List Caller) → length (counts_of_lem b cs) ≡ length cs
-unfolding counts_of_lem
+members_are : (b : ℕ) (cs : List Caller) → length (counts_of b cs) ≡ length cs
+unfolding counts_of
 members_are b [] = refl
 members_are b (c ∷ cs) = ap suc (members_are b cs)
 
-cells_are : (b : ℕ) (cs : List Caller) → length (cells_of_lem b cs) ≡ total (counts_of_lem b cs)
-unfolding counts_of_lem cells_of_lem total
+cells_are : (b : ℕ) (cs : List Caller) → length (cells_of_lem b cs) ≡ total (counts_of b cs)
+unfolding counts_of cells_of_lem total
 cells_are b [] = refl
 cells_are b (c ∷ cs) = omega (arith, length-append (wants b c) (cells_of_lem b cs), cells_are b cs)
 
-lists_short : (h : Head) (cs : List Caller) → All (AsksWell h) cs → all_within 64 (counts_of_lem h.buckets cs) ≡ true
-unfolding counts_of_lem all_within
+lists_short : (h : Head) (cs : List Caller) → All (AsksWell h) cs → all_within 64 (counts_of h.buckets cs) ≡ true
+unfolding counts_of all_within
 lists_short h [] a = refl
 lists_short h (c ∷ cs) a = rw (le-leb (length (wants h.buckets c)) 64 a.0.few) (lists_short h cs a.1)
 
@@ -48,11 +48,11 @@ drop_past [] ys n = let e : 0 + n ≡ n = omega arith in ap (λ (k : ℕ). drop 
 drop_past (x ∷ xs) ys n = let e : length (x ∷ xs) + n ≡ suc (length xs + n) = omega arith in rw e (drop_past xs ys n)
 
 pub lists_are : ListsAre
-unfolding counts_of_lem cells_of_lem start_of total
+unfolding counts_of cells_of_lem start_of total
 lists_are b [] after c = take_at (wants b c) (cells_of_lem b after) (length (wants b c)) refl
 lists_are b (d ∷ before) after c =
     let all = before ++ (c ∷ after) in
-    rw (drop_past (wants b d) (cells_of_lem b all) (total (take (length before) (counts_of_lem b all)))) (lists_are b before after c)
+    rw (drop_past (wants b d) (cells_of_lem b all) (total (take (length before) (counts_of b all)))) (lists_are b before after c)
 
 -- each member's list is its caller's, so it rises and stays in range
 asked_inside : (h : Head) (c : Caller) → AsksWell h c → (d : ℕ) → is_among d (cells_asked h.buckets c.registry c.keys) ≡ true → d < cells_of h
@@ -68,12 +68,12 @@ wants_rise : (h : Head) (c : Caller) → AsksWell h c → rises_from (cells_of h
 wants_rise h c a = sorted_listed (cells_of h) (cells_asked h.buckets c.registry c.keys) (asked_inside h c a)
 
 lists_rise : (h : Head) (cs : List Caller) → All (AsksWell h) cs → (m : ℕ) → m < length cs
-    → rises_from (cells_of h) 0 (list_of (counts_of_lem h.buckets cs) (cells_of_lem h.buckets cs) m) ≡ true
-unfolding counts_of_lem cells_of_lem start_of total
+    → rises_from (cells_of h) 0 (list_of (counts_of h.buckets cs) (cells_of_lem h.buckets cs) m) ≡ true
+unfolding counts_of cells_of_lem start_of total
 lists_rise h [] a m l = absurd (omega arith)
 lists_rise h (c ∷ cs) a zero l = rw (take_at (wants h.buckets c) (cells_of_lem h.buckets cs) (length (wants h.buckets c)) refl) (wants_rise h c a.0)
 lists_rise h (c ∷ cs) a (suc m) l =
-    rw (drop_past (wants h.buckets c) (cells_of_lem h.buckets cs) (total (take m (counts_of_lem h.buckets cs)))) (lists_rise h cs a.1 m (omega arith))
+    rw (drop_past (wants h.buckets c) (cells_of_lem h.buckets cs) (total (take m (counts_of h.buckets cs)))) (lists_rise h cs a.1 m (omega arith))
 
 lists_pass : (left m inside : ℕ) (counts cells : List ℕ) → ((i : ℕ) → i < m + left → rises_from inside 0 (list_of counts cells i) ≡ true) → Clear (bad_lists left m inside counts cells)
 unfolding bad_lists
@@ -88,7 +88,7 @@ turns_pass members i (m ∷ ms) f = (lt-leb members m (f 0 (omega arith)), turns
 pub callers_are_crew : CallersAreCrew
 unfolding crew_rules
 callers_are_crew h t g callers turns k =
-    let counts = counts_of_lem h.buckets callers in
+    let counts = counts_of h.buckets callers in
     let cells = cells_of_lem h.buckets callers in
     let n = members_are h.buckets callers in
     let limits : (bad_limits counts cells turns).applies ≡ false
@@ -126,9 +126,9 @@ every_cell P b (c ∷ cs) a k l = go (dec_lt k (length (wants b c))) (every_cell
 
 -- so demand 3's premises are met
 pub callers_open : (h : Head) (t g : List ℕ) (callers : List Caller) (turns : List ℕ) → Crowd h t g callers turns → ReadyFor h t g callers
-    → Open h t g (counts_of_lem h.buckets callers) (cells_of_lem h.buckets callers) turns
+    → Open h t g (counts_of h.buckets callers) (cells_of_lem h.buckets callers) turns
 callers_open h t g callers turns k r =
-    let all : (i : ℕ) → i < total (counts_of_lem h.buckets callers) → Calm h t g (get_or (cells_of_lem h.buckets callers) i 0)
+    let all : (i : ℕ) → i < total (counts_of h.buckets callers) → Calm h t g (get_or (cells_of_lem h.buckets callers) i 0)
     = λ i l. every_cell (Calm h t g) h.buckets callers r.calm i (omega (arith, l, cells_are h.buckets callers)) in
     record {
       fine = callers_are_crew h t g callers turns k;
@@ -139,32 +139,15 @@ callers_open h t g callers turns k r =
     }
 
 pub callers_finish : CallersFinish crew_of
-callers_finish h t g callers rounds k r = demand_3 h t g (counts_of_lem h.buckets callers) (cells_of_lem h.buckets callers) rounds (callers_open h t g callers (flat rounds) k r)
+callers_finish h t g callers rounds k r = demand_3 h t g (counts_of h.buckets callers) (cells_of_lem h.buckets callers) rounds (callers_open h t g callers (flat rounds) k r)
 
 pub callers_finish_at_work : CallersFinishAtWork crew_at_work_of
 callers_finish_at_work h t g callers counters rounds k r =
-    demand_3_at_work h t g (counts_of_lem h.buckets callers) (cells_of_lem h.buckets callers) counters rounds (callers_open h t g callers (flat rounds) k r)
-
--- ---- two callers, falling keys and a double: cells 5, 3, 5 and cells 3, 0
-
-abbrev bench : Head
-bench = head_of 2 4 1 5
-
-abbrev two_callers : List Caller
-two_callers = record { registry = 0 ∷ 1 ∷ 1 ∷ []; keys = 1 ∷ 1 ∷ 0 ∷ 3 ∷ 2 ∷ 1 ∷ [] } ∷ record { registry = 0 ∷ []; keys = 0 ∷ 3 ∷ 0 ∷ 0 ∷ [] } ∷ []
-
-abbrev table : List ℕ
-table = replicate 24 0
-
-abbrev health : List ℕ
-health = replicate 2 0
-
-abbrev eight : List (List ℕ)
-eight = replicate 8 (0 ∷ 1 ∷ [])
+    demand_3_at_work h t g (counts_of h.buckets callers) (cells_of_lem h.buckets callers) counters rounds (callers_open h t g callers (flat rounds) k r)
 
 -- the crew that they are
-pub two_lists : (counts_of_lem 4 two_callers ≡ 2 ∷ 2 ∷ []) × (cells_of_lem 4 two_callers ≡ 3 ∷ 5 ∷ 0 ∷ 3 ∷ [])
-unfolding counts_of_lem cells_of_lem merge_of merged_of sort_of sorted_of cells_from
+pub two_lists : (counts_of 4 two_callers ≡ 2 ∷ 2 ∷ []) × (cells_of_lem 4 two_callers ≡ 3 ∷ 5 ∷ 0 ∷ 3 ∷ [])
+unfolding counts_of cells_of_lem merge_of merged_of sort_of sorted_of cells_from
 two_lists = (refl, refl)
 
 named_both : (n i : ℕ) → i < length (flat (replicate n (0 ∷ 1 ∷ []))) → get_or (flat (replicate n (0 ∷ 1 ∷ []))) i 0 < 2
@@ -174,7 +157,7 @@ named_both (suc n) (suc zero) l = omega arith
 named_both (suc n) (suc (suc i)) l = named_both n i (omega arith)
 
 two_crowd : Crowd bench table health two_callers (flat eight)
-unfolding counts_of_lem total merge_of merged_of sort_of sorted_of cells_from first_key first head_fits shape_fits health_fits
+unfolding counts_of total merge_of merged_of sort_of sorted_of cells_from first_key first head_fits shape_fits health_fits
 two_crowd =
     record {
       shape = refl;
@@ -193,23 +176,23 @@ unfolding state_at state_of is_free bit_at owner_at waiters_at
 calm c = (rw (zeros 24 (3 * c), zeros 24 (3 * c + 1)), zeros 24 (3 * c + 2), zeros 2 (c / 4))
 
 two_ready : ReadyFor bench table health two_callers
-unfolding counts_of_lem total merge_of merged_of sort_of sorted_of cells_from
+unfolding counts_of total merge_of merged_of sort_of sorted_of cells_from
 two_ready = record { calm = (λ p l. calm _, (λ p l. calm _, tt)); serials = omega arith }
 
 -- turns that name both are rounds, whatever the replies
-again : (reply : List ℕ → CrewReply) (n : ℕ) (before : List ℕ) → RoundsSaid reply (counts_of_lem 4 two_callers) before (replicate n (0 ∷ 1 ∷ []))
+again : (reply : List ℕ → CrewReply) (n : ℕ) (before : List ℕ) → RoundsSaid reply (counts_of 4 two_callers) before (replicate n (0 ∷ 1 ∷ []))
 again reply zero before = tt
 again reply (suc n) before = (everyone, again reply n (before ++ (0 ∷ 1 ∷ [])))
   where
-    everyone : (m : ℕ) → UnfinishedSaid reply (counts_of_lem 4 two_callers) before m → In m (0 ∷ 1 ∷ [])
+    everyone : (m : ℕ) → UnfinishedSaid reply (counts_of 4 two_callers) before m → In m (0 ∷ 1 ∷ [])
     everyone zero u = inl refl
     everyone (suc zero) u = inr (inl refl)
     everyone (suc (suc m)) u = absurd (omega (arith, u.0, members_are 4 two_callers))
 
 -- so in eight rounds both have held their cells and released them
-pub two_finish : Complete bench table (counts_of_lem 4 two_callers) (flat eight) (crew_of bench table health (counts_of_lem 4 two_callers) (cells_of_lem 4 two_callers) (flat eight))
+pub two_finish : Complete bench table (counts_of 4 two_callers) (flat eight) (crew_of bench table health (counts_of 4 two_callers) (cells_of_lem 4 two_callers) (flat eight))
 unfolding total
 two_finish =
     callers_finish bench table health two_callers eight two_crowd two_ready
-    (again (λ turns. (crew_of bench table health (counts_of_lem 4 two_callers) (cells_of_lem 4 two_callers) turns).seen.0) 8 [])
+    (again (λ turns. (crew_of bench table health (counts_of 4 two_callers) (cells_of_lem 4 two_callers) turns).seen.0) 8 [])
     (subst (λ (ns : List ℕ). Enough ns eight) (sym two_lists.0) (omega arith))

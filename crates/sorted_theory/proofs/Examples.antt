@@ -13,26 +13,11 @@ use Rattle.types.specs.declared.Answer.TheVariants.{Done, AllGranted, Refused, R
 use Rattle.types.specs.declared.Refusal.TheVariants.{TooMany, BadHeader, Poisoned, Repeated}
 use Rattle.laws.specs.Checks.{lease_in}
 use Rattle.history.specs.World.{World, world_of, Live}
-use Rattle.history.specs.Items.{Call, acquire_sorted, release_all_lem, says, perform}
+use Rattle.history.specs.Items.{Call, acquire_sorted, release_all, says, perform}
 use Rattle.history.specs.Statements.{answers, buffer_in, leaves, log_of}
 use Rattle.sorted_theory.specs.Statements.{RefusedLater}
 use Rattle.sorted_theory.proofs.Theorems.{shares, serials_by_cell, taken_rising, each_key_live, keys_first, later_position, fourteen, once_done}
-
-abbrev prepared : World
-prepared = world_of (head_of 2 4 1 5) (replicate 24 0) (replicate 2 0)
-
-abbrev registry : List ℕ
-registry = 0 ∷ 1 ∷ 1 ∷ []
-
--- cells 5, 3, 5 and 0: falling, and a double by two bindings of one header
-abbrev mixed : List ℕ
-mixed = 1 ∷ 1 ∷ 0 ∷ 3 ∷ 2 ∷ 1 ∷ 0 ∷ 0 ∷ []
-
-abbrev buffer : List ℕ
-buffer = 9 ∷ 9 ∷ 9 ∷ 9 ∷ 9 ∷ 9 ∷ 9 ∷ 9 ∷ 9 ∷ 9 ∷ 9 ∷ 9 ∷ []
-
-abbrev mixed_call : Call
-mixed_call = acquire_sorted registry [] 0 [] mixed buffer
+use Rattle.sorted_theory.specs.Examples.{prepared, registry, mixed, buffer, mixed_call, sixty_five, sick, sick_keys}
 
 -- three cells, three attempts of three boundaries; each key's lease in the caller's order
 pub mixed_granted : (perform prepared mixed_call).seen.1 ≡ says AllGranted (counts_of 3 9 0 0) 0 (5 ∷ 3 ∷ 5 ∷ 3 ∷ 2 ∷ 5 ∷ 5 ∷ 3 ∷ 5 ∷ 0 ∷ 1 ∷ 5 ∷ [])
@@ -57,25 +42,21 @@ mixed_shares = (
 )
 
 -- `fourteen`: the buffer as it is, given to `release_all`, is refused at position 2
-pub mixed_fourteen : answers (leaves prepared mixed_call) (release_all_lem [] 0 (buffer_in (perform prepared mixed_call))) ≡ Refused (Repeated 2)
+pub mixed_fourteen : answers (leaves prepared mixed_call) (release_all [] 0 (buffer_in (perform prepared mixed_call))) ≡ Refused (Repeated 2)
 unfolding perform bit_at owner_at waiters_at set_cell is_free is_held state_of state_at is_live leases_of holds_of words_of same_hold is_in head_fits shape_fits health_fits registry_fits first run_steps_of boundary_of take_of late_stage_of second_stage_of lock_of find_of attempt_of spin_of pause_of retry_of give_back_of rollback_of locks_of not_live bad_bindings locks_rules not_releasable release_rules release_all_of merge_of merged_of sort_of sorted_of cells_from first_asking keys_for first_key hold_on shared_of sorted_locks_of acquire_sorted_of
 mixed_fourteen = refl
 
-pub mixed_repeats : (j : ℕ) × (j ≤ 2) × (answers (leaves prepared mixed_call) (release_all_lem [] 0 (buffer_in (perform prepared mixed_call))) ≡ Refused (Repeated j))
+pub mixed_repeats : (j : ℕ) × (j ≤ 2) × (answers (leaves prepared mixed_call) (release_all [] 0 (buffer_in (perform prepared mixed_call))) ≡ Refused (Repeated j))
 mixed_repeats = let x = fourteen prepared registry [] 0 [] mixed buffer 0 2 mixed_answer (omega arith) (omega arith) refl in (x.0, x.1, x.4)
 
 -- each lease once, it is done
-pub mixed_released : answers (leaves prepared mixed_call) (release_all_lem [] 0 (5 ∷ 3 ∷ 5 ∷ 3 ∷ 2 ∷ 5 ∷ 0 ∷ 1 ∷ 5 ∷ [])) ≡ Done
+pub mixed_released : answers (leaves prepared mixed_call) (release_all [] 0 (5 ∷ 3 ∷ 5 ∷ 3 ∷ 2 ∷ 5 ∷ 0 ∷ 1 ∷ 5 ∷ [])) ≡ Done
 unfolding perform bit_at owner_at waiters_at set_cell is_free is_held state_of state_at is_live leases_of holds_of words_of same_hold is_in head_fits shape_fits health_fits registry_fits first run_steps_of boundary_of take_of late_stage_of second_stage_of lock_of find_of attempt_of spin_of pause_of retry_of give_back_of rollback_of locks_of not_live bad_bindings locks_rules not_releasable release_rules release_all_of merge_of merged_of sort_of sorted_of cells_from first_asking keys_for first_key hold_on shared_of sorted_locks_of acquire_sorted_of
 mixed_released = refl
 
 -- `once_done` says so too
-pub mixed_once : answers (leaves prepared mixed_call) (release_all_lem [] 0 (words_of 5 (shared_of (holds_of (buffer_in (perform prepared mixed_call))) (cells_sorted 4 registry mixed)))) ≡ Done
+pub mixed_once : answers (leaves prepared mixed_call) (release_all [] 0 (words_of 5 (shared_of (holds_of (buffer_in (perform prepared mixed_call))) (cells_sorted 4 registry mixed)))) ≡ Done
 mixed_once = once_done prepared registry [] 0 [] mixed buffer mixed_answer
-
--- "TooMany counts keys as typed": sixty-five keys, all of cell 0
-abbrev sixty_five : Call
-sixty_five = acquire_sorted registry [] 0 [] (replicate 130 0) (replicate 195 9)
 
 pub too_many_typed : perform prepared sixty_five ≡ record { seen = (prepared, says (Refused TooMany) (counts_of 0 0 0 0) 0 (replicate 195 9)); log = [] }
 unfolding perform leases_of holds_of head_fits shape_fits health_fits registry_fits first not_live locks_rules acquire_sorted_of
@@ -85,13 +66,6 @@ too_many_typed = refl
 pub bad_header_first : perform prepared (acquire_sorted (0 ∷ 7 ∷ []) [] 0 [] (0 ∷ 3 ∷ 1 ∷ 4 ∷ []) (9 ∷ 9 ∷ 9 ∷ 9 ∷ 9 ∷ 9 ∷ [])) ≡ record { seen = (prepared, says (RefusedAt (BadHeader 7) 1) (counts_of 0 0 0 0) 0 (9 ∷ 9 ∷ 9 ∷ 9 ∷ 9 ∷ 9 ∷ [])); log = [] }
 unfolding perform leases_of holds_of head_fits shape_fits health_fits registry_fits first not_live bad_bindings locks_rules first_key acquire_sorted_of
 bad_header_first = (keys_first prepared (0 ∷ 7 ∷ []) [] 0 [] (0 ∷ 3 ∷ 1 ∷ 4 ∷ []) (9 ∷ 9 ∷ 9 ∷ 9 ∷ 9 ∷ 9 ∷ []) (BadHeader 7) 1).1 refl (inl refl)
-
--- `later_position`: header 1 is poisoned, its cell 5 asked for at positions 1 and 2; cells 0 and 2 were locked before, and are given back
-abbrev sick : World
-sick = world_of (head_of 2 4 1 5) (replicate 24 0) (0 ∷ 1 ∷ [])
-
-abbrev sick_keys : List ℕ
-sick_keys = 0 ∷ 2 ∷ 2 ∷ 1 ∷ 1 ∷ 1 ∷ 0 ∷ 0 ∷ []
 
 pub sick_refused : answers sick (acquire_sorted registry [] 0 [] sick_keys buffer) ≡ RefusedAt (Poisoned 1) 1
 unfolding perform bit_at owner_at waiters_at set_cell is_free is_held state_of state_at is_live leases_of holds_of words_of same_hold is_in head_fits shape_fits health_fits registry_fits first run_steps_of boundary_of take_of late_stage_of second_stage_of lock_of find_of attempt_of spin_of pause_of retry_of give_back_of rollback_of locks_of not_live bad_bindings locks_rules merge_of merged_of sort_of sorted_of cells_from first_asking keys_for first_key hold_on shared_of sorted_locks_of acquire_sorted_of

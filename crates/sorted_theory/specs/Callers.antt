@@ -1,5 +1,6 @@
 -- Demand 3 for callers that ask by keys, in any order and with doubles: their sorted lists make a crew, so none of them can block another for good.
 -- A list that a caller sorts is "a strictly rising list with exactly the cells asked for", and BadCrew asks for rising lists in range.
+-- ---- callers
 use Rattle.std.specs.Prelude.{ℕ, zero, suc, ◌+◌, ◌*◌, ◌-◌, ◌/◌, ◌≤◌, ◌<◌, ◌≡◌, refl, List, [], ◌∷◌, ◌++◌, true, false, not, length, get_or, take, drop, replicate}
 use Rattle.std.proofs.Common.{sym, ap, ◌∙◌, subst, inl, inr, arith, length-append, take_at, le-leb, le-ltb, eq-eqb}
 use Rattle.std.proofs.Math.Decide.{dec_lt}
@@ -26,8 +27,6 @@ use Rattle.crew_theory.specs.Statements.{In, flat, UnfinishedSaid, RoundsSaid, R
 use Rattle.crew_theory.proofs.Theorems.{demand_3, demand_3_at_work}
 use Rattle.sorted_theory.specs.Keys.{keys_inside}
 
--- ---- callers
-
 -- what a caller gives `acquire_sorted_locks` to lock
 pub record Caller : Type 0 where
   pub registry : List ℕ
@@ -41,9 +40,9 @@ abbrev pub wants : ℕ → Caller → List ℕ
 wants buckets c = cells_sorted buckets c.registry c.keys
 
 -- the same of all callers, as a crew is given them: how many cells each, and the lists one behind the other
-unfoldable pub counts_of_lem : ℕ → List Caller → List ℕ
-counts_of_lem buckets [] = []
-counts_of_lem buckets (c ∷ cs) = length (wants buckets c) ∷ counts_of_lem buckets cs
+unfoldable pub counts_of : ℕ → List Caller → List ℕ
+counts_of buckets [] = []
+counts_of buckets (c ∷ cs) = length (wants buckets c) ∷ counts_of buckets cs
 
 unfoldable pub cells_of_lem : ℕ → List Caller → List ℕ
 cells_of_lem buckets [] = []
@@ -68,7 +67,7 @@ pub record Crowd (h : Head) (t g : List ℕ) (callers : List Caller) (turns : Li
   pub some : 1 ≤ length callers
   pub few : length callers ≤ 16
   pub each : All (AsksWell h) callers
-  pub cells_few : total (counts_of_lem h.buckets callers) ≤ 256
+  pub cells_few : total (counts_of h.buckets callers) ≤ 256
   pub turns_few : length turns ≤ 65536
   pub members : (i : ℕ) → i < length turns → get_or turns i 0 < length callers
 
@@ -79,7 +78,7 @@ Calm h t g c = (state_at h.next t c ≡ state.Free) × (waiters_at t c ≡ 0) ×
 -- the cells of every key of every caller, and "K serials remain"
 pub record ReadyFor (h : Head) (t g : List ℕ) (callers : List Caller) : Type 0 where
   pub calm : All (λ c. (p : ℕ) → p < count_in c.keys → Calm h t g (asks h.buckets c p)) callers
-  pub serials : h.next + total (counts_of_lem h.buckets callers) ≤ last_serial
+  pub serials : h.next + total (counts_of h.buckets callers) ≤ last_serial
 
 -- ---- what is proved of them
 
@@ -87,20 +86,20 @@ pub record ReadyFor (h : Head) (t g : List ℕ) (callers : List Caller) : Type 0
 abbrev pub CallersAreCrew : Type 0
 CallersAreCrew =
     (h : Head) (t g : List ℕ) (callers : List Caller) (turns : List ℕ) → Crowd h t g callers turns
-    → first (crew_rules h t g (counts_of_lem h.buckets callers) (cells_of_lem h.buckets callers) turns) ≡ Fine
+    → first (crew_rules h t g (counts_of h.buckets callers) (cells_of_lem h.buckets callers) turns) ≡ Fine
 
 -- and its members are the callers, in their order: each wants the sorted cells of its caller's keys
 abbrev pub ListsAre : Type 0
 ListsAre =
     (b : ℕ) (before after : List Caller) (c : Caller)
-    → list_of (counts_of_lem b (before ++ (c ∷ after))) (cells_of_lem b (before ++ (c ∷ after))) (length before) ≡ wants b c
+    → list_of (counts_of b (before ++ (c ∷ after))) (cells_of_lem b (before ++ (c ∷ after))) (length before) ≡ wants b c
 
 -- demand 3, "whatever the order of turns": after 2K rounds, K being the distinct cells of each caller in all, all have held their whole lists
 -- and released them
 abbrev pub CallersFinish : CrewBuild → Type 0
 CallersFinish f =
     (h : Head) (t g : List ℕ) (callers : List Caller) (rounds : List (List ℕ))
-    → let counts = counts_of_lem h.buckets callers in
+    → let counts = counts_of h.buckets callers in
     let cells = cells_of_lem h.buckets callers in
     Crowd h t g callers (flat rounds) → ReadyFor h t g callers → RoundsAfter f h t g counts cells [] rounds → Enough counts rounds
     → Complete h t counts (flat rounds) (f h t g counts cells (flat rounds))
@@ -109,7 +108,24 @@ CallersFinish f =
 abbrev pub CallersFinishAtWork : CrewAtWorkBuild → Type 0
 CallersFinishAtWork f =
     (h : Head) (t g : List ℕ) (callers : List Caller) (counters : List ℕ) (rounds : List (List ℕ))
-    → let counts = counts_of_lem h.buckets callers in
+    → let counts = counts_of h.buckets callers in
     let cells = cells_of_lem h.buckets callers in
     Crowd h t g callers (flat rounds) → ReadyFor h t g callers → length counters ≡ cells_of h → RoundsAtWork f h t g counts cells counters [] rounds → EnoughAtWork counts rounds
     → Completed (3 * total counts) h t counts (flat rounds) (tabled (f h t g counts cells (flat rounds) counters))
+
+-- ---- two callers, falling keys and a double: cells 5, 3, 5 and cells 3, 0
+
+abbrev pub bench : Head
+bench = head_of 2 4 1 5
+
+abbrev pub two_callers : List Caller
+two_callers = record { registry = 0 ∷ 1 ∷ 1 ∷ []; keys = 1 ∷ 1 ∷ 0 ∷ 3 ∷ 2 ∷ 1 ∷ [] } ∷ record { registry = 0 ∷ []; keys = 0 ∷ 3 ∷ 0 ∷ 0 ∷ [] } ∷ []
+
+abbrev pub table : List ℕ
+table = replicate 24 0
+
+abbrev pub health : List ℕ
+health = replicate 2 0
+
+abbrev pub eight : List (List ℕ)
+eight = replicate 8 (0 ∷ 1 ∷ [])

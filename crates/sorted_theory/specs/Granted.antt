@@ -18,11 +18,11 @@ use Rattle.history.specs.Items.{Says, acquire_sorted, any_order, key_cell, perfo
 use Rattle.history.specs.Statements.{buffer_in, HandsOver}
 use Rattle.history.specs.Judged.{sorted_locks}
 use Rattle.history.proofs.Calls.{call_kept}
-use Rattle.history.proofs.Handed.{TakenIn}
+use Rattle.history.specs.Handed.{TakenIn}
 use Rattle.history.proofs.HandedCalls.{call_came, locks_serials}
 use Rattle.history.proofs.Shared.{HandedBack, asked_cells, sorted_cells, chosen_keys, sorted_rises, sorted_place, sorted_place_at, rising_earlier, all_inner, in_place, steps_hand_back, back_own, buffers_name}
 use Rattle.sorted_theory.specs.Statements.{Shares, SerialsByCell, ApartByCell, TakenRising, EachKeyLive}
-use Rattle.sorted_theory.specs.Runs.{Goes, refused_whole_lem, refused_key, locks, goes}
+use Rattle.sorted_theory.specs.Runs.{Goes, refused_whole, refused_key, locks, goes}
 
 -- ---- two events of one log
 
@@ -59,15 +59,15 @@ module _ (w : World) (registry script : List ℕ) (place : ℕ) (held keys grant
 
   -- the locks were all granted, and their leases handed back by key
   record GrantedSo (m : Made (World × Says)) : Type 0 where
-    inner : (sorted_locks w registry script place held keys grants).seen.0.answer ≡ AllGranted
-    back : HandedBack b registry keys inner_leases (holds_of (buffer_in m))
-    words : buffer_in m ≡ words_of w.head.boot (holds_of (buffer_in m))
+    pub inner : (sorted_locks w registry script place held keys grants).seen.0.answer ≡ AllGranted
+    pub back : HandedBack b registry keys inner_leases (holds_of (buffer_in m))
+    pub words : buffer_in m ≡ words_of w.head.boot (holds_of (buffer_in m))
 
   granted : said.seen.1.answer ≡ AllGranted → GrantedSo said
   granted = go (goes w registry script place held keys grants)
     where
       go : {m : Made (World × Says)} → Goes w registry script place held keys grants m → m.seen.1.answer ≡ AllGranted → GrantedSo m
-      go (refused_whole_lem r) a = let z : ◌≡◌ {A = ℕ} 0 1 = cc in absurd (omega arith)
+      go (refused_whole r) a = let z : ◌≡◌ {A = ℕ} 0 1 = cc in absurd (omega arith)
       go (refused_key r p c x) a = let z : ◌≡◌ {A = ℕ} 0 1 = cc in absurd (omega arith)
       go (locks c) a =
           let o = (sorted_locks w registry script place held keys grants).seen in

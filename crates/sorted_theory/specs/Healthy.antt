@@ -11,7 +11,7 @@ use Rattle.model.specs.Sorted.{shared_of}
 use Rattle.types.specs.declared.Hold.{Hold}
 use Rattle.history.specs.World.{World, Healthy, now}
 use Rattle.history.specs.Items.{acquire_locks, acquire_sorted, in_order, key_cell, perform}
-use Rattle.history.specs.Statements.{answer_in_lem, buffer_in, world_in}
+use Rattle.history.specs.Statements.{answer_in, buffer_in, world_in}
 use Rattle.history.specs.Answers.{GrantPoint}
 use Rattle.history.proofs.Calls.{words_leases}
 use Rattle.history.proofs.Healthy.{locks_grant_healthy}
@@ -51,7 +51,7 @@ sorted_healthy w registry script place held keys grants p a l =
     let count = chosen_count b registry keys in
     let x = as_multilock w registry script place held keys grants other (granted_beyond w registry script place held keys grants (goes w registry script place held keys grants) a) (length-replicate {A = ℕ} (3 * length sorted) 0) in
     let y = x.1 in
-    let all = all_inner asked sorted (answer_in_lem n) (sym y.answer ∙ a) in
+    let all = all_inner asked sorted (answer_in n) (sym y.answer ∙ a) in
     let full = buffers_name w k registry chosen (in_order registry script place held chosen other) all in
     let ls = holds_of (buffer_in n) in
     let back = handed_back_lem b registry keys ls (omega (arith, full.0, count, words_leases (buffer_in n), holds_few (buffer_in n)))

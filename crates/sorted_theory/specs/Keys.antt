@@ -17,7 +17,7 @@ use Rattle.types.specs.declared.KeyCheck.{KeyCheck}
 use Rattle.types.specs.declared.KeyCheck.TheVariants as key
 use Rattle.types.specs.declared.Refusal.{Refusal}
 use Rattle.types.specs.declared.Refusal.TheVariants.{BadHeader, InvalidBucket}
-use Rattle.sorted_theory.specs.Statements.{TestsKey, KeyInside, BadKey, bad_header_lem, bad_bucket, FirstBad}
+use Rattle.sorted_theory.specs.Statements.{TestsKey, KeyInside, BadKey, bad_header, bad_bucket, FirstBad}
 
 module _ (h : Head) (registry keys : List ℕ) where
   -- `left` keys from position i on
@@ -46,13 +46,13 @@ module _ (h : Head) (registry keys : List ℕ) where
     where
       go : (a b : Bool) → leb h.headers (header_of_key registry keys i) ≡ a → leb h.buckets (bucket_at keys i) ≡ b → (x : KeyCheck) → Checked left (i + 1) x
           → Checked (suc left) i (fault_at (if a then check.Fault (BadHeader (header_of_key registry keys i)) else if b then check.Fault (InvalidBucket (bucket_at keys i)) else check.Fine) i x)
-      go true b u v x c = faulty _ i (omega arith) (omega arith) (λ q m n. absurd (omega arith)) (bad_header_lem (leb-true _ _ u))
+      go true b u v x c = faulty _ i (omega arith) (omega arith) (λ q m n. absurd (omega arith)) (bad_header (leb-true _ _ u))
       go false true u v x c = faulty _ i (omega arith) (omega arith) (λ q m n. absurd (omega arith)) (bad_bucket (leb-false _ _ u) (leb-true _ _ v))
       go false false u v x c = one_more (leb-false _ _ u, leb-false _ _ v) c
 
   -- a key is not inside and bad
   not_both : (p : ℕ) (r : Refusal) → KeyInside h registry keys p → BadKey h registry keys p r → ⊥
-  not_both p r k (bad_header_lem x) = omega (arith, k.0)
+  not_both p r k (bad_header x) = omega (arith, k.0)
   not_both p r k (bad_bucket x y) = omega (arith, k.1)
 
   -- no fault: every key is inside
@@ -84,9 +84,9 @@ module _ (h : Head) (registry keys : List ℕ) where
           (subst (λ (y : ℕ). FirstBad h registry keys s y) v (record { position = omega arith; before = λ x l. f x (omega arith) l; here = g }))
 
   one_fault : (p : ℕ) {r s : Refusal} → BadKey h registry keys p r → BadKey h registry keys p s → r ≡ s
-  one_fault p (bad_header_lem x) (bad_header_lem y) = refl
-  one_fault p (bad_header_lem x) (bad_bucket y z) = absurd (omega arith)
-  one_fault p (bad_bucket x y) (bad_header_lem z) = absurd (omega arith)
+  one_fault p (bad_header x) (bad_header y) = refl
+  one_fault p (bad_header x) (bad_bucket y z) = absurd (omega arith)
+  one_fault p (bad_bucket x y) (bad_header z) = absurd (omega arith)
   one_fault p (bad_bucket x y) (bad_bucket z u) = refl
 
   -- and the first one is found
@@ -107,7 +107,7 @@ module _ (h : Head) (registry keys : List ℕ) where
 
   -- its number is 6 or 8
   pub bad_tests : (p : ℕ) {r : Refusal} → BadKey h registry keys p r → TestsKey r
-  bad_tests p (bad_header_lem x) = inl refl
+  bad_tests p (bad_header x) = inl refl
   bad_tests p (bad_bucket x y) = inr refl
 
 -- before the first place that asks nothing asks

@@ -8,3 +8,4 @@ pub mod Healthy
 pub mod Quiet
 pub mod Repeats
 pub mod Takes
+pub mod Examples

@@ -31,13 +31,13 @@ use Rattle.types.specs.declared.Tried.{Tried}
 use Rattle.laws.specs.Outcomes.{Comes, granted, busy, poisoned, damaged, spent, lock_comes}
 use Rattle.history.specs.World.{World}
 use Rattle.history.specs.Items.{Call, Says, unchanged_at, acquire_locks, acquire_sorted, perform, Clear, rules}
-use Rattle.history.specs.Statements.{answer_in_lem, RolledBack}
+use Rattle.history.specs.Statements.{answer_in, RolledBack}
 use Rattle.history.specs.Judged.{clear, judged_at, seen_as, sorted_locks, as_asked, made_so}
 use Rattle.history.proofs.Rollback.{locks_roll_back}
 use Rattle.history.proofs.Shared.{asked_cells, sorted_cells, chosen_keys, asked_at, first_place, first_place_at, chosen_binding, chosen_bucket, chosen_count}
 use Rattle.sorted_theory.specs.Statements.{TestsKey, KeyInside, FirstBad, KeysFirst, ChecksAsTyped, BeyondChecks, RefusedLater, LaterPosition}
 use Rattle.sorted_theory.specs.Keys.{keys_inside, first_found, bad_tests, none_before}
-use Rattle.sorted_theory.specs.Runs.{Goes, refused_whole_lem, refused_key, locks, goes, as_multilock}
+use Rattle.sorted_theory.specs.Runs.{Goes, refused_whole, refused_key, locks, goes, as_multilock}
 
 -- ---- the steps never refuse with 6 or 8, once every key was found inside
 
@@ -144,8 +144,8 @@ module _ (w : World) (registry script : List ℕ) (place : ℕ) (held keys grant
       Clear (rules w (acquire_sorted registry script place held keys grants)) × FirstBad w.head registry keys r p
       × (m ≡ unchanged_at w (acquire_sorted registry script place held keys grants) r p)
 
-  first_so : (r : Refusal) (p : ℕ) {m : Made (World × Says)} → Goes w registry script place held keys grants m → answer_in_lem m ≡ RefusedAt r p → TestsKey r → FirstSo r p m
-  first_so r p (refused_whole_lem x) a t = let z : ◌≡◌ {A = ℕ} 0 1 = cc in absurd (omega arith)
+  first_so : (r : Refusal) (p : ℕ) {m : Made (World × Says)} → Goes w registry script place held keys grants m → answer_in m ≡ RefusedAt r p → TestsKey r → FirstSo r p m
+  first_so r p (refused_whole x) a t = let z : ◌≡◌ {A = ℕ} 0 1 = cc in absurd (omega arith)
   first_so r p (refused_key x q c f) a t =
       let u : x ≡ r = cc in
       let v : q ≡ p = cc in
@@ -162,11 +162,11 @@ keys_first w registry script place held keys grants r p =
     )
   where
     found : Clear (rules w (acquire_sorted registry script place held keys grants)) → FirstBad w.head registry keys r p
-        → answer_in_lem (perform w (acquire_sorted registry script place held keys grants)) ≡ RefusedAt r p
+        → answer_in (perform w (acquire_sorted registry script place held keys grants)) ≡ RefusedAt r p
     found c f =
         let k = acquire_sorted registry script place held keys grants in
-        ap (λ (m : Made (World × Says)). answer_in_lem m) (made_so w k c)
-        ∙ ap (λ (x : KeyCheck). answer_in_lem (judge_at x (unchanged_at w k) (seen_as (as_asked w registry keys) (sorted_locks w registry script place held keys grants)))) (first_found w.head registry keys r p f)
+        ap (λ (m : Made (World × Says)). answer_in m) (made_so w k c)
+        ∙ ap (λ (x : KeyCheck). answer_in (judge_at x (unchanged_at w k) (seen_as (as_asked w registry keys) (sorted_locks w registry script place held keys grants)))) (first_found w.head registry keys r p f)
 
 -- ---- later
 
@@ -187,9 +187,9 @@ module _ (w : World) (registry script : List ℕ) (place : ℕ) (held keys grant
   abbrev sorted : List ℕ
   sorted = sorted_cells w.head.buckets registry keys
 
-  beyond : {m : Made (World × Says)} (p : ℕ) → Goes w registry script place held keys grants m → answer_in_lem m ≡ RefusedAt r p → (TestsKey r → ⊥)
+  beyond : {m : Made (World × Says)} (p : ℕ) → Goes w registry script place held keys grants m → answer_in m ≡ RefusedAt r p → (TestsKey r → ⊥)
       → BeyondChecks w registry script place held keys grants
-  beyond p (refused_whole_lem x) a n = let z : ◌≡◌ {A = ℕ} 0 1 = cc in absurd (omega arith)
+  beyond p (refused_whole x) a n = let z : ◌≡◌ {A = ℕ} 0 1 = cc in absurd (omega arith)
   beyond p (refused_key x q c f) a n = let u : x ≡ r = cc in absurd (n (subst TestsKey u (bad_tests w.head registry keys q f.here)))
   beyond p (locks c) a n = c
 
@@ -216,7 +216,7 @@ later_position w registry script place held keys grants r p a n =
     let other : List ℕ = replicate (3 * length (sorted_cells b registry keys)) 0 in
     let c = beyond w registry script place held keys grants r p (goes w registry script place held keys grants) a n in
     let y = (as_multilock w registry script place held keys grants other c (length-replicate {A = ℕ} (3 * length (sorted_cells b registry keys)) 0)).1 in
-    let x = refused_inner (asked_cells b registry keys) (sorted_cells b registry keys) (answer_in_lem (perform w (acquire_locks registry script place held chosen other))) r p (sym y.answer ∙ a) in
+    let x = refused_inner (asked_cells b registry keys) (sorted_cells b registry keys) (answer_in (perform w (acquire_locks registry script place held chosen other))) r p (sym y.answer ∙ a) in
     let back = locks_roll_back w registry script place held chosen other r x.0 x.1 in (
       subst (λ (q : ℕ). RefusedLater b registry keys q m.log) x.2
           (at_first w registry script place held keys grants r x.0 m.log (subst (λ (es : List Event). RolledBack b registry chosen x.0 es) (sym y.log) back)),
@@ -266,32 +266,32 @@ module _ (w : World) (registry script : List ℕ) (place : ℕ) (held keys grant
   typed_call = acquire_locks registry script place held keys grants
 
   -- a check of multi-lock applies: both calls answer it
-  both_refuse : (r : Refusal) → first (rules w typed_call) ≡ Fault r → (answer_in_lem (perform w sorted_call) ≡ Refused r) × (answer_in_lem (perform w typed_call) ≡ Refused r)
+  both_refuse : (r : Refusal) → first (rules w typed_call) ≡ Fault r → (answer_in (perform w sorted_call) ≡ Refused r) × (answer_in (perform w typed_call) ≡ Refused r)
   unfolding perform acquire_sorted_of acquire_locks_of
   both_refuse r e = (rw e, rw e)
 
   -- none applies: neither is refused without a position
-  sorted_positioned : first (rules w typed_call) ≡ Fine → Positioned (answer_in_lem (perform w sorted_call))
+  sorted_positioned : first (rules w typed_call) ≡ Fine → Positioned (answer_in (perform w sorted_call))
   sorted_positioned e =
-      subst (λ (m : Made (World × Says)). Positioned (answer_in_lem m)) (sym (made_so w sorted_call (clear (rules w sorted_call) e)))
-      (judged_at (λ (m : Made (World × Says)). Positioned (answer_in_lem m)) (first_key (count_in keys) 0 w.head registry keys) (λ r p _. tt)
+      subst (λ (m : Made (World × Says)). Positioned (answer_in m)) (sym (made_so w sorted_call (clear (rules w sorted_call) e)))
+      (judged_at (λ (m : Made (World × Says)). Positioned (answer_in m)) (first_key (count_in keys) 0 w.head registry keys) (λ r p _. tt)
       (λ _.
       asked_positioned (asked_cells w.head.buckets registry keys) (sorted_cells w.head.buckets registry keys) (sorted_locks w registry script place held keys grants).seen.0.answer
       (locks_positioned (length (sorted_cells w.head.buckets registry keys)) 0 (given w.head script (holds_of held)) w.head.buckets w.head.boot registry (chosen_keys w.head.buckets registry keys) [] (starting w.head place) w.table w.health grants)))
 
-  typed_positioned : first (rules w typed_call) ≡ Fine → Positioned (answer_in_lem (perform w typed_call))
+  typed_positioned : first (rules w typed_call) ≡ Fine → Positioned (answer_in (perform w typed_call))
   typed_positioned e =
-      subst (λ (m : Made (World × Says)). Positioned (answer_in_lem m)) (sym (made_so w (acquire_locks registry script place held keys grants) (clear (rules w typed_call) e)))
+      subst (λ (m : Made (World × Says)). Positioned (answer_in m)) (sym (made_so w (acquire_locks registry script place held keys grants) (clear (rules w typed_call) e)))
       (locks_positioned (count_in keys) 0 (given w.head script (holds_of held)) w.head.buckets w.head.boot registry keys [] (starting w.head place) w.table w.health grants)
 
 pub checks_as_typed : ChecksAsTyped perform
 checks_as_typed w registry script place held keys grants r = go (first (rules w (acquire_locks registry script place held keys grants))) refl
   where
     A : Answer
-    A = answer_in_lem (perform w (acquire_sorted registry script place held keys grants))
+    A = answer_in (perform w (acquire_sorted registry script place held keys grants))
 
     B : Answer
-    B = answer_in_lem (perform w (acquire_locks registry script place held keys grants))
+    B = answer_in (perform w (acquire_locks registry script place held keys grants))
 
     go : (x : Check) → first (rules w (acquire_locks registry script place held keys grants)) ≡ x → (A ≡ Refused r) ↔ (B ≡ Refused r)
     go Fine e = (

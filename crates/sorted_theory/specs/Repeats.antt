@@ -25,8 +25,8 @@ use Rattle.types.specs.declared.Refusal.TheVariants.{Repeated}
 use Rattle.laws.specs.Lists.{holds_few, length_words}
 use Rattle.laws.specs.Checks.{not_stale}
 use Rattle.history.specs.World.{World, Live}
-use Rattle.history.specs.Items.{Says, acquire_sorted, release_all_lem, any_order, key_cell, perform, Clear, rules}
-use Rattle.history.specs.Statements.{answer_in_lem, buffer_in, leaves}
+use Rattle.history.specs.Items.{Says, acquire_sorted, release_all, any_order, key_cell, perform, Clear, rules}
+use Rattle.history.specs.Statements.{answer_in, buffer_in, leaves}
 use Rattle.history.specs.Tests.{differ, In, in_take, in_index}
 use Rattle.history.specs.Judged.{clear_back, sorted_locks, made_so}
 use Rattle.history.proofs.Calls.{call_kept, words_leases}
@@ -114,14 +114,14 @@ take_short [] (suc n) = omega arith
 take_short (k ∷ ls) zero = omega arith
 take_short (k ∷ ls) (suc n) = omega (arith, take_short ls n)
 
-refused_release : (v : World) (b : List ℕ) (r : Refusal) → first (rules v (release_all_lem [] 0 b)) ≡ Fault r → answer_in_lem (perform v (release_all_lem [] 0 b)) ≡ Refused r
+refused_release : (v : World) (b : List ℕ) (r : Refusal) → first (rules v (release_all [] 0 b)) ≡ Fault r → answer_in (perform v (release_all [] 0 b)) ≡ Refused r
 unfolding perform release_all_of
 refused_release v b r e = rw e
 
 -- ---- the buffer of a granted call
 
 module _ (w : World) (registry script : List ℕ) (place : ℕ) (held keys grants : List ℕ)
-    (granted : answer_in_lem (perform w (acquire_sorted registry script place held keys grants)) ≡ AllGranted) where
+    (granted : answer_in (perform w (acquire_sorted registry script place held keys grants)) ≡ AllGranted) where
   abbrev cell : ℕ → ℕ
   cell = key_cell w.head.buckets registry keys
 
@@ -162,7 +162,7 @@ module _ (w : World) (registry script : List ℕ) (place : ℕ) (held keys grant
   all_named = ap leases_of (words_so w registry script place held keys grants granted) ∙ named ls
 
   -- only 14 can apply
-  checks : first (rules v (release_all_lem [] 0 buffer)) ≡ first (not_releasable v.head v.table 0 [] (map (lease_under v.head.boot) ls))
+  checks : first (rules v (release_all [] 0 buffer)) ≡ first (not_releasable v.head v.table 0 [] (map (lease_under v.head.boot) ls))
   unfolding locks_rules release_rules first
   checks =
       let c = clear in
@@ -192,7 +192,7 @@ module _ (w : World) (registry script : List ℕ) (place : ℕ) (held keys grant
   refused : (q : ℕ) → q < count_in keys → Doubled w.head.buckets registry keys q
       → (j : ℕ) × (j ≤ q) × Doubled w.head.buckets registry keys j
       × ((i : ℕ) → i < j → Doubled w.head.buckets registry keys i → ⊥)
-      × (answer_in_lem (perform v (release_all_lem [] 0 buffer)) ≡ Refused (Repeated j))
+      × (answer_in (perform v (release_all [] 0 buffer)) ≡ Refused (Repeated j))
   refused q l d =
       let e : q ≡ 0 + q = omega arith in
       let x = least_from Again q 0 (subst (λ (n : ℕ). Again n ≡ true) e (again q l d)) (λ n k. absurd (omega arith)) in
@@ -240,7 +240,7 @@ module _ (w : World) (registry script : List ℕ) (place : ℕ) (held keys grant
           let same = ap (λ (y : Hold). y.cell) (x.2 ∙ get_d_take each i j l) in
           absurd (omega (arith, same, back.own i (omega (arith, k, back.many)), back.own j (omega (arith, l, k, back.many)), rising_at 0 sorted (sorted_rises b registry keys) j i l (omega (arith, k, back.many))))
 
-  once_clear : Clear (rules v (release_all_lem [] 0 (words_of w.head.boot each)))
+  once_clear : Clear (rules v (release_all [] 0 (words_of w.head.boot each)))
   unfolding locks_rules release_rules
   once_clear =
       let c = clear in
@@ -250,10 +250,10 @@ module _ (w : World) (registry script : List ℕ) (place : ℕ) (held keys grant
       = rw (length_words w.head.boot each, eq-eqb ((3 * n) % 3) 0 (omega arith)) (le-ltb 64 ((3 * n) / 3) (omega (arith, few, sorted_few b registry keys, back.many))) in
       (shape_on held k c.0, (health_on_lem held k c.1.0, (refl, (fits, rw (named each) (none_again v.head v.table 0 [] each each_live each_once)))))
 
-  released : answer_in_lem (perform v (release_all_lem [] 0 (words_of w.head.boot (shared_of ls sorted)))) ≡ Done
+  released : answer_in (perform v (release_all [] 0 (words_of w.head.boot (shared_of ls sorted)))) ≡ Done
   released =
-      subst (λ (ks : List Hold). answer_in_lem (perform v (release_all_lem [] 0 (words_of w.head.boot ks))) ≡ Done) (sym (back_once b registry keys back))
-      (ap (λ (m : Made (World × Says)). answer_in_lem m) (made_so v (release_all_lem [] 0 (words_of w.head.boot each)) once_clear))
+      subst (λ (ks : List Hold). answer_in (perform v (release_all [] 0 (words_of w.head.boot ks))) ≡ Done) (sym (back_once b registry keys back))
+      (ap (λ (m : Made (World × Says)). answer_in m) (made_so v (release_all [] 0 (words_of w.head.boot each)) once_clear))
 
 pub once_done : OnceDone perform
 once_done w registry script place held keys grants granted = released w registry script place held keys grants granted

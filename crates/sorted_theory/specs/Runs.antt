@@ -40,19 +40,19 @@ module _ (w : World) (registry script : List ℕ) (place : ℕ) (held keys grant
   sorted_call = acquire_sorted registry script place held keys grants
 
   pub data Goes : Made (World × Says) → Type 0 where
-    refused_whole_lem : (r : Refusal) → Goes (unchanged w (acquire_sorted registry script place held keys grants) r)
+    refused_whole : (r : Refusal) → Goes (unchanged w (acquire_sorted registry script place held keys grants) r)
     refused_key : (r : Refusal) (p : ℕ) → Clear (rules w (acquire_sorted registry script place held keys grants)) → FirstBad w.head registry keys r p
         → Goes (unchanged_at w (acquire_sorted registry script place held keys grants) r p)
     locks : BeyondChecks w registry script place held keys grants → Goes (seen_as (as_asked w registry keys) (sorted_locks w registry script place held keys grants))
 
   pub goes : Goes (perform w sorted_call)
   goes =
-      performed Goes w sorted_call (λ r. refused_whole_lem r)
+      performed Goes w sorted_call (λ r. refused_whole r)
       (λ c. judged_at Goes (first_key (count_in keys) 0 w.head registry keys) (λ r p e. refused_key r p c (fault_first w.head registry keys r p e)) (λ e. locks (c, e)))
 
   -- a granted call went beyond its checks
   pub granted_beyond : {m : Made (World × Says)} → Goes m → m.seen.1.answer ≡ AllGranted → BeyondChecks w registry script place held keys grants
-  granted_beyond (refused_whole_lem r) a = let z : ◌≡◌ {A = ℕ} 0 1 = cc in absurd (omega arith)
+  granted_beyond (refused_whole r) a = let z : ◌≡◌ {A = ℕ} 0 1 = cc in absurd (omega arith)
   granted_beyond (refused_key r p c f) a = let z : ◌≡◌ {A = ℕ} 0 1 = cc in absurd (omega arith)
   granted_beyond (locks c) a = c
 

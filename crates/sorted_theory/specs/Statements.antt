@@ -17,8 +17,8 @@ use Rattle.types.specs.declared.Refusal.{Refusal}
 use Rattle.types.specs.declared.Refusal.TheVariants.{BadHeader, InvalidBucket, Repeated}
 use Rattle.laws.specs.Checks.{lease_in}
 use Rattle.history.specs.World.{World, Live, Healthy, now}
-use Rattle.history.specs.Items.{acquire_locks, acquire_sorted, release_all_lem, key_cell, Says, says, Build, Clear, rules}
-use Rattle.history.specs.Statements.{answer_in_lem, buffer_in, world_in, RolledBack}
+use Rattle.history.specs.Items.{acquire_locks, acquire_sorted, release_all, key_cell, Says, says, Build, Clear, rules}
+use Rattle.history.specs.Statements.{answer_in, buffer_in, world_in, RolledBack}
 use Rattle.history.specs.Answers.{GrantPoint}
 use Rattle.history_exact.specs.Statements.{IsFree, Unwaited, Names, leases_from, takes_of}
 
@@ -30,7 +30,7 @@ Shares f =
     (w : World) (registry script : List ℕ) (place : ℕ) (held keys grants : List ℕ) (p q : ℕ)
     → let m = f w (acquire_sorted registry script place held keys grants) in
     let cell = key_cell w.head.buckets registry keys in
-    answer_in_lem m ≡ AllGranted → p < count_in keys → q < count_in keys → cell p ≡ cell q
+    answer_in m ≡ AllGranted → p < count_in keys → q < count_in keys → cell p ≡ cell q
     → lease_in (buffer_in m) p ≡ lease_in (buffer_in m) q
 
 -- "lock in rising order": the serials rise with the cells, whatever the order of the keys
@@ -39,7 +39,7 @@ SerialsByCell f =
     (w : World) (registry script : List ℕ) (place : ℕ) (held keys grants : List ℕ) (p q : ℕ)
     → let m = f w (acquire_sorted registry script place held keys grants) in
     let cell = key_cell w.head.buckets registry keys in
-    answer_in_lem m ≡ AllGranted → p < count_in keys → q < count_in keys → cell p < cell q
+    answer_in m ≡ AllGranted → p < count_in keys → q < count_in keys → cell p < cell q
     → (hold_at (holds_of (buffer_in m)) p).serial < (hold_at (holds_of (buffer_in m)) q).serial
 
 -- so keys of two cells have two serials
@@ -48,7 +48,7 @@ ApartByCell f =
     (w : World) (registry script : List ℕ) (place : ℕ) (held keys grants : List ℕ) (p q : ℕ)
     → let m = f w (acquire_sorted registry script place held keys grants) in
     let cell = key_cell w.head.buckets registry keys in
-    answer_in_lem m ≡ AllGranted → p < count_in keys → q < count_in keys → cell p ≢ cell q
+    answer_in m ≡ AllGranted → p < count_in keys → q < count_in keys → cell p ≢ cell q
     → (hold_at (holds_of (buffer_in m)) p).serial ≢ (hold_at (holds_of (buffer_in m)) q).serial
 
 -- the same from the log: the lower cell was taken first
@@ -59,7 +59,7 @@ TakenRising f =
     let cell = key_cell w.head.buckets registry keys in
     let l = hold_at (holds_of (buffer_in m)) p in
     let k = hold_at (holds_of (buffer_in m)) q in
-    answer_in_lem m ≡ AllGranted → p < count_in keys → q < count_in keys → cell p < cell q
+    answer_in m ≡ AllGranted → p < count_in keys → q < count_in keys → cell p < cell q
     → (x y z : List Event) × (m.log ≡ x ++ (took by_caller (cell p) l.serial ∷ (y ++ (took by_caller (cell q) k.serial ∷ z))))
 
 -- granted or refused: no take of the caller comes behind one of a higher cell. The same cell may come again, where a retry takes it once more after a
@@ -76,7 +76,7 @@ EachKeyLive f =
     (w : World) (registry script : List ℕ) (place : ℕ) (held keys grants : List ℕ) (p : ℕ)
     → let m = f w (acquire_sorted registry script place held keys grants) in
     let l = hold_at (holds_of (buffer_in m)) p in
-    answer_in_lem m ≡ AllGranted → p < count_in keys → (l.cell ≡ key_cell w.head.buckets registry keys p) × Live (world_in m) l
+    answer_in m ≡ AllGranted → p < count_in keys → (l.cell ≡ key_cell w.head.buckets registry keys p) × Live (world_in m) l
 
 -- document 02, L3: each key's lease is on a header that is healthy at the point of its grant, and that of the highest cell in the health that the call
 -- leaves. As of multi-lock, no more is promised of the cells before the last
@@ -86,7 +86,7 @@ SortedHealthy f =
     → let m = f w (acquire_sorted registry script place held keys grants) in
     let cell = key_cell w.head.buckets registry keys in
     let l = hold_at (holds_of (buffer_in m)) p in
-    answer_in_lem m ≡ AllGranted → p < count_in keys
+    answer_in m ≡ AllGranted → p < count_in keys
     → ((before after : List Event) × (m.log ≡ before ++ after) × GrantPoint l before after × Healthy (now w before) l.cell)
     × (((q : ℕ) → q < count_in keys → cell q ≤ cell p) → Healthy (world_in m) l.cell)
 
@@ -95,8 +95,8 @@ SortedHealthy f =
 abbrev pub ChecksAsTyped : Build → Type 0
 ChecksAsTyped f =
     (w : World) (registry script : List ℕ) (place : ℕ) (held keys grants : List ℕ) (r : Refusal)
-    → (answer_in_lem (f w (acquire_sorted registry script place held keys grants)) ≡ Refused r)
-    ↔ (answer_in_lem (f w (acquire_locks registry script place held keys grants)) ≡ Refused r)
+    → (answer_in (f w (acquire_sorted registry script place held keys grants)) ≡ Refused r)
+    ↔ (answer_in (f w (acquire_locks registry script place held keys grants)) ≡ Refused r)
 
 -- ---- refused before any attempt: "BadHeader and InvalidBucket are now also tested in this call before any attempt, by the caller's first position,
 -- header before bucket."
@@ -110,7 +110,7 @@ KeyInside h registry keys p = (header_of_key registry keys p < h.headers) × (bu
 
 -- "header before bucket"
 pub data BadKey (h : Head) (registry keys : List ℕ) (p : ℕ) : Refusal → Type 0 where
-  bad_header_lem : h.headers ≤ header_of_key registry keys p → BadKey h registry keys p (BadHeader (header_of_key registry keys p))
+  bad_header : h.headers ≤ header_of_key registry keys p → BadKey h registry keys p (BadHeader (header_of_key registry keys p))
   bad_bucket : header_of_key registry keys p < h.headers → h.buckets ≤ bucket_at keys p → BadKey h registry keys p (InvalidBucket (bucket_at keys p))
 
 -- "by the caller's first position"
@@ -124,8 +124,8 @@ abbrev pub KeysFirst : Build → Type 0
 KeysFirst f =
     (w : World) (registry script : List ℕ) (place : ℕ) (held keys grants : List ℕ) (r : Refusal) (p : ℕ)
     → let k = acquire_sorted registry script place held keys grants in
-    (((answer_in_lem (f w k) ≡ RefusedAt r p) × TestsKey r) ↔ (Clear (rules w k) × FirstBad w.head registry keys r p))
-    × (answer_in_lem (f w k) ≡ RefusedAt r p → TestsKey r → f w k ≡ record { seen = (w, says (RefusedAt r p) (counts_of 0 0 0 0) place grants); log = [] })
+    (((answer_in (f w k) ≡ RefusedAt r p) × TestsKey r) ↔ (Clear (rules w k) × FirstBad w.head registry keys r p))
+    × (answer_in (f w k) ≡ RefusedAt r p → TestsKey r → f w k ≡ record { seen = (w, says (RefusedAt r p) (counts_of 0 0 0 0) place grants); log = [] })
 
 -- ---- beyond its checks the call is multi-lock over the sorted keys
 
@@ -136,9 +136,9 @@ pub record AsLocks (buckets boot : ℕ) (registry keys grants : List ℕ) (m n :
   pub counts : m.seen.1.counts ≡ n.seen.1.counts
   pub place : m.seen.1.place ≡ n.seen.1.place
   -- "a later refusal carries the first position asking for that cell"
-  pub answer : answer_in_lem m ≡ asked_first (answer_in_lem n) (cells_asked buckets registry keys) (cells_sorted buckets registry keys)
-  pub handed : answer_in_lem n ≡ AllGranted → buffer_in m ≡ words_of boot (shared_of (holds_of (buffer_in n)) (cells_asked buckets registry keys))
-  pub kept : (answer_in_lem n ≡ AllGranted → ⊥) → buffer_in m ≡ grants
+  pub answer : answer_in m ≡ asked_first (answer_in n) (cells_asked buckets registry keys) (cells_sorted buckets registry keys)
+  pub handed : answer_in n ≡ AllGranted → buffer_in m ≡ words_of boot (shared_of (holds_of (buffer_in n)) (cells_asked buckets registry keys))
+  pub kept : (answer_in n ≡ AllGranted → ⊥) → buffer_in m ≡ grants
 
 -- no check applies and no key is faulty. The buffer of the other call is any that fits
 abbrev pub BeyondChecks : World → (registry script : List ℕ) (place : ℕ) (held keys grants : List ℕ) → Type 0
@@ -192,7 +192,7 @@ abbrev pub LaterPosition : Build → Type 0
 LaterPosition f =
     (w : World) (registry script : List ℕ) (place : ℕ) (held keys grants : List ℕ) (r : Refusal) (p : ℕ)
     → let m = f w (acquire_sorted registry script place held keys grants) in
-    answer_in_lem m ≡ RefusedAt r p → (TestsKey r → ⊥)
+    answer_in m ≡ RefusedAt r p → (TestsKey r → ⊥)
     → RefusedLater w.head.buckets registry keys p m.log × (buffer_in m ≡ grants)
 
 -- ---- "To `release_all` the caller hands each lease once, else 14."
@@ -207,15 +207,15 @@ Fourteen f =
     (w : World) (registry script : List ℕ) (place : ℕ) (held keys grants : List ℕ) (p q : ℕ)
     → let m = f w (acquire_sorted registry script place held keys grants) in
     let cell = key_cell w.head.buckets registry keys in
-    answer_in_lem m ≡ AllGranted → p < q → q < count_in keys → cell p ≡ cell q
+    answer_in m ≡ AllGranted → p < q → q < count_in keys → cell p ≡ cell q
     → (j : ℕ) × (j ≤ q) × Doubled w.head.buckets registry keys j
     × ((i : ℕ) → i < j → Doubled w.head.buckets registry keys i → ⊥)
-    × (answer_in_lem (f (world_in m) (release_all_lem [] 0 (buffer_in m))) ≡ Refused (Repeated j))
+    × (answer_in (f (world_in m) (release_all [] 0 (buffer_in m))) ≡ Refused (Repeated j))
 
 -- "each lease once", of each cell asked for, in rising order: released
 abbrev pub OnceDone : Build → Type 0
 OnceDone f =
     (w : World) (registry script : List ℕ) (place : ℕ) (held keys grants : List ℕ)
     → let m = f w (acquire_sorted registry script place held keys grants) in
-    answer_in_lem m ≡ AllGranted
-    → answer_in_lem (f (world_in m) (release_all_lem [] 0 (words_of w.head.boot (shared_of (holds_of (buffer_in m)) (cells_sorted w.head.buckets registry keys))))) ≡ Done
+    answer_in m ≡ AllGranted
+    → answer_in (f (world_in m) (release_all [] 0 (words_of w.head.boot (shared_of (holds_of (buffer_in m)) (cells_sorted w.head.buckets registry keys))))) ≡ Done

@@ -27,11 +27,13 @@ use Rattle.types.specs.declared.Took.{Took}
 use Rattle.types.specs.declared.Tried.{Tried}
 use Rattle.history.specs.World.{World}
 use Rattle.history.specs.Items.{Says, acquire_sorted, cell_of, key_cell, perform}
-use Rattle.history.proofs.ByKey.{FoundAt, found_own}
-use Rattle.history.proofs.Rollback.{Foreigner, Every, end, also, every_append, every_map, boundary_foreign}
+use Rattle.history.specs.ByKey.{FoundAt}
+use Rattle.history.proofs.ByKey.{found_own}
+use Rattle.history.specs.Rollback.{Foreigner}
+use Rattle.history.proofs.Rollback.{Every, end, also, every_append, every_map, boundary_foreign}
 use Rattle.history.proofs.Shared.{sorted_cells, chosen_keys, sorted_rises, rising_at, chosen_cell}
 use Rattle.sorted_theory.specs.Statements.{TakesRise}
-use Rattle.sorted_theory.specs.Runs.{Goes, refused_whole_lem, refused_key, locks, goes}
+use Rattle.sorted_theory.specs.Runs.{Goes, refused_whole, refused_key, locks, goes}
 
 -- ---- a log whose takes rise
 
@@ -217,7 +219,7 @@ climbs w registry script place held keys grants = go (goes w registry script pla
         omega (arith, chosen_cell b registry keys i (omega arith), chosen_cell b registry keys (i + 1) l, rising_at 0 sorted (sorted_rises b registry keys) i (i + 1) (omega arith) l)
 
     go : {m : Made (World × Says)} → Goes w registry script place held keys grants m → Climbs 0 m.log
-    go (refused_whole_lem r) = tt
+    go (refused_whole r) = tt
     go (refused_key r p c f) = tt
     go (locks c) =
         locks_up (given w.head script (holds_of held)) b w.head.boot registry (chosen_keys b registry keys) grants (length sorted) rises

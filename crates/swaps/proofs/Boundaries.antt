@@ -1,4 +1,5 @@
 -- A boundary over a script of which a stretch was shuffled: from every place outside the stretch it runs to the same end.
+-- ---- the words of a script
 use Prim.Native.Nat.{ℕ, zero, suc, ◌+◌, ◌*◌, ◌-◌, ◌≤◌, ◌<◌}
 use Rattle.std.specs.Prelude.{◌≡◌, List, [], ◌∷◌, ◌++◌, ◌≢◌, ◌⊎◌, get_or}
 use Rattle.std.proofs.Math.Path.{refl}
@@ -21,8 +22,7 @@ use Rattle.swaps.specs.Fine.{Fine}
 use Rattle.swaps.proofs.Acts.{fine_leaves}
 use Rattle.swaps.proofs.Lists.{shuffle, fine_all}
 use Rattle.swaps.proofs.Owners.{three_on}
-
--- ---- the words of a script
+use Rattle.swaps.specs.Boundaries.{SameWords, Ran, rest_of, goes_on, Same}
 
 script_length : (ss : List Step) → length (script_of ss) ≡ length ss * 3
 unfolding script_of
@@ -66,12 +66,6 @@ pub word_on : (pre ss post : List Step) (i : ℕ) → get_or (script_of (pre ++ 
 word_on pre ss post i =
     ap (λ (k : ℕ). get_or (script_of (pre ++ (ss ++ post))) k 0) (omega arith) ∙ word_behind pre (ss ++ post) (3 * length ss + i) ∙ word_behind ss post i
 
--- the three words of a step are the same in both scripts
-record SameWords (a b : List ℕ) (p : ℕ) : Type 0 where
-  kinds : kind_at b p ≡ kind_at a p
-  places : place_at b p ≡ place_at a p
-  numbers : number_at b p ≡ number_at a p
-
 -- ---- steps that stand in a script are played one after the other
 
 -- the steps stand in the script from this place on
@@ -100,14 +94,6 @@ stand (s ∷ pre) ss post =
     stand_at (script_of (s ∷ pre ++ (ss ++ post))) (length pre + 1) (length (s ∷ pre)) ss (omega arith)
     (shift s.kind s.place s.number (script_of (pre ++ (ss ++ post))) (length pre) ss (stand pre ss post))
 
--- what a boundary gives: flow, table and health
-abbrev pub Ran : Type 0
-Ran = Flow × (List ℕ × List ℕ)
-
--- the rest of a boundary behind one step
-abbrev rest_of : ℕ → Setting → Flow → Made (Stepped × (List ℕ × List ℕ)) → Ran
-rest_of left e f o = (run_steps_of left e (flow_of o.seen.0.next (f.place + 1) (f.dropped + o.seen.0.dropped)) o.seen.1.0 o.seen.1.1).seen
-
 turn : (left : ℕ) (e : Setting) (f : Flow) (t g : List ℕ) (k q m : ℕ) → kind_at e.script f.place ≡ k → place_at e.script f.place ≡ q
     → number_at e.script f.place ≡ m → k ≢ 5 → (run_steps_of (suc left) e f t g).seen ≡ rest_of left e f (step_of e f.next t g k q m)
 unfolding run_steps_of
@@ -123,10 +109,6 @@ unscripted : (h : Head) (script : List ℕ) (ps : List Hold) (n : ℕ) (t g : Li
     → step_of (given h script ps) n t g k q m ≡ step_of (given h [] ps) n t g k q m
 unfolding step_of
 unscripted h script ps n t g k q m = refl
-
--- the rest of a boundary from this world on
-abbrev pub goes_on : ℕ → Setting → World → ℕ → ℕ → Ran
-goes_on more e v p d = (run_steps_of more e (flow_of v.head.next p d) v.table v.health).seen
 
 pub goes_through : (left more : ℕ) (ps : List Hold) (script : List ℕ) (w : World) (p d : ℕ) (ss : List Step) → left ≡ length ss + more → Stand script p ss
     → Unended ss
@@ -175,11 +157,6 @@ head_after ps w (s ∷ ss) = head_after ps (leaves ps w s) ss
 fine_after : (ps : List Hold) (w : World) (ss : List Step) → Fine w
     → Fine (world_of (spent_to w.head (after_all ps w ss).head.next) (after_all ps w ss).table (after_all ps w ss).health)
 fine_after ps w ss f = subst (λ (h : Head). Fine (world_of h (after_all ps w ss).table (after_all ps w ss).health)) (head_after ps w ss) (fine_all ps w ss f)
-
--- two results that are one, and good
-pub record Same {A : Type 0} (G : A → Type 0) (x y : A) : Type 0 where
-  pub equal : y ≡ x
-  pub good : G x
 
 module _ (h : Head) (pre ss ts post : List Step) (unended : Unended ss) (shuffle_is : Shuffled ss ts) where
   abbrev pub one : List ℕ

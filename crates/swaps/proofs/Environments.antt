@@ -21,7 +21,8 @@ use Rattle.swaps.specs.Scripts.{script_of, Unended, Ended, ends}
 use Rattle.swaps.specs.Statements.{BoundaryRuns, ReplyRenamed, EnvironmentRetaken}
 use Rattle.swaps.proofs.Owners.{identity}
 use Rattle.swaps.proofs.Retakes.{steps_retake}
-use Rattle.swaps.proofs.Boundaries.{goes_on, goes_through, stand, turn_last, same_length, steps_in_lem, word_on}
+use Rattle.swaps.specs.Boundaries.{goes_on}
+use Rattle.swaps.proofs.Boundaries.{goes_through, stand, turn_last, same_length, steps_in_lem, word_on}
 
 -- ---- one boundary
 

@@ -9,7 +9,7 @@ use Rattle.model.specs.Calls.{given, environment_of}
 use Rattle.types.specs.declared.Hold.{Hold}
 use Rattle.types.specs.declared.State.TheVariants as state
 use Rattle.history.specs.World.{World, world_of, Lawful}
-use Rattle.history.specs.Items.{try_lock_lem, perform}
+use Rattle.history.specs.Items.{try_lock, perform}
 use Rattle.history.specs.Tests.{Status, free, held, not_damaged}
 use Rattle.swaps.specs.Steps.{Whole, Step, step_words, take_step, release_step, waiters_step, health_step, leaves, dropped, Parted, dropped_in}
 use Rattle.swaps.specs.Steps as steps
@@ -18,41 +18,7 @@ use Rattle.swaps.specs.Renaming as renaming
 use Rattle.swaps.specs.Scripts.{script_of, stretch, try_locks}
 use Rattle.swaps.specs.Statements.{SameEitherWay, OwnersExchanged, Swapped, AlikeRenamed, StepsRenamed, ReplyRenamed}
 use Rattle.swaps.proofs.Theorems.{two_releases, take_release, two_takes, other_kinds, any_steps, idle_take, logs_recast, steps_retaken, calls_rescripted, environment_retaken}
-
-abbrev arena : ℕ → List ℕ → World
-arena next t = world_of (head_of 1 2 next 6) t (0 ∷ [])
-
-abbrev empty : World
-empty = arena 1 (0 ∷ 0 ∷ 0 ∷ 0 ∷ 0 ∷ 0 ∷ [])
-
--- cell 0 is held by serial 1
-abbrev one_held : World
-one_held = arena 2 (1 ∷ 1 ∷ 0 ∷ 0 ∷ 0 ∷ 0 ∷ [])
-
--- and cell 1 by serial 2
-abbrev both_held : World
-both_held = arena 3 (1 ∷ 1 ∷ 0 ∷ 1 ∷ 2 ∷ 0 ∷ [])
-
--- one serial is left
-abbrev nearly_spent : World
-nearly_spent = arena 4_294_967_294 (0 ∷ 0 ∷ 0 ∷ 0 ∷ 0 ∷ 0 ∷ [])
-
--- cell 1 is damaged: its owner was not issued yet
-abbrev damaged : World
-damaged = arena 2 (0 ∷ 0 ∷ 0 ∷ 1 ∷ 2 ∷ 0 ∷ [])
-
-abbrev take_0 : Step
-take_0 = take_step 0 0
-
-abbrev take_1 : Step
-take_1 = take_step 1 0
-
-abbrev release_0 : Step
-release_0 = release_step 0 1
-
--- the numbers dropped of two steps in this order, and the world left
-abbrev Told : List Hold → World → Step → Step → ℕ → ℕ → World → Type 0
-Told ps w s t x y v = (dropped ps w s ≡ x) × ((dropped ps (leaves ps w s) t ≡ y) × (leaves ps (leaves ps w s) t ≡ v))
+use Rattle.swaps.specs.Examples.{arena, empty, one_held, both_held, nearly_spent, damaged, take_0, take_1, release_0, Told, left_by, morning, other_morning, noon, other_noon, before, evening, other_evening}
 
 -- ---- why the cells differ
 
@@ -123,12 +89,6 @@ not_older : (dropped_in (hold_of 0 1 ∷ []) empty (take_0 ∷ take_1 ∷ releas
 unfolding dropped_in renamed_steps renamed_step flip step_of step_take_of step_release_of bit_at owner_at set_cell is_free is_held state_of state_at is_live same_hold is_in
 not_older = (refl, refl)
 
--- ---- why a script is shuffled between two ends of boundaries, and not around the place at which a call begins
-
--- the table that one boundary over these steps leaves, from this place on
-abbrev left_by : List Step → ℕ → List ℕ
-left_by ss place = (boundary_of (given empty.head (script_of ss) []) (flow_of 1 place 0) empty.table empty.health).seen.1.0
-
 -- begun between the two steps: each order runs another one
 inside_stretch : (left_by (waiters_step 0 5 ∷ waiters_step 1 6 ∷ []) 1 ≡ 0 ∷ 0 ∷ 0 ∷ 0 ∷ 0 ∷ 6 ∷ [])
     × (left_by (waiters_step 1 6 ∷ waiters_step 0 5 ∷ []) 1 ≡ 0 ∷ 0 ∷ 5 ∷ 0 ∷ 0 ∷ 0 ∷ [])
@@ -194,13 +154,6 @@ one_taken = idle_take [] one_held 0 0 1 0 apart (inl refl)
 unknown_beside : Swapped [] one_held (step_words 7 0 0) take_0
 unknown_beside = any_steps [] one_held (step_words 7 0 0) take_0 whole_held (other_kinds (step_words 7 0 0) take_0 (inr (omega arith)))
 
--- a log: cells 0 and 1 are taken, and cell 0 is released; with the takes exchanged, the release names serial 2
-abbrev morning : List Event
-morning = took by_caller 0 1 ∷ took by_script 1 2 ∷ released by_caller 0 1 ∷ []
-
-abbrev other_morning : List Event
-other_morning = took by_script 1 1 ∷ took by_caller 0 2 ∷ released by_caller 0 2 ∷ []
-
 morning_lawful : Lawful empty morning
 unfolding bit_at owner_at set_cell is_free is_held state_of state_at is_live
 morning_lawful = (((omega arith, refl), (refl, omega arith)), (((omega arith, refl), (refl, omega arith)), (refl, tt)))
@@ -211,13 +164,6 @@ morning_recast = renaming.two_takes {a = by_caller} {b = by_script} {c = 0} {d =
 
 morning_renamed : AlikeRenamed empty morning other_morning
 morning_renamed = logs_recast empty morning other_morning whole_empty morning_recast morning_lawful
-
--- a list of steps: cell 0 is taken, released and taken, and both takes are exchanged with the take of cell 1, which so comes first
-abbrev noon : List Step
-noon = take_0 ∷ release_0 ∷ take_0 ∷ take_1 ∷ []
-
-abbrev other_noon : List Step
-other_noon = take_1 ∷ take_0 ∷ release_step 0 2 ∷ take_0 ∷ []
 
 release_take_parted : Parted release_0 take_1
 release_take_parted =
@@ -232,16 +178,6 @@ noon_retaken =
 noon_renamed : StepsRenamed [] empty noon other_noon
 noon_renamed = steps_retaken [] empty noon other_noon whole_empty tt noon_retaken
 
--- a `try_lock` of cell 1 over a script with two boundaries: in the second, cell 1's waiters and cell 0's release are exchanged
-abbrev before : List Step
-before = step_words 5 0 0 ∷ []
-
-abbrev evening : List Step
-evening = waiters_step 1 0 ∷ release_0 ∷ []
-
-abbrev other_evening : List Step
-other_evening = release_0 ∷ waiters_step 1 0 ∷ []
-
 waiters_release_parted : Parted (waiters_step 1 0) release_0
 waiters_release_parted =
     record { one_take = λ x y. omega arith; on_bits = λ x y. absurd (neither x); on_waiters = λ x y. omega arith; on_health = λ x y. omega arith }
@@ -250,10 +186,10 @@ waiters_release_parted =
     neither (inl x) = omega arith
     neither (inr x) = omega arith
 
-evening_same : (perform one_held (try_lock_lem (script_of (before ++ (other_evening ++ before))) 0 [] 1)).seen
-    ≡ (perform one_held (try_lock_lem (script_of (before ++ (evening ++ before))) 0 [] 1)).seen
+evening_same : (perform one_held (try_lock (script_of (before ++ (other_evening ++ before))) 0 [] 1)).seen
+    ≡ (perform one_held (try_lock (script_of (before ++ (evening ++ before))) 0 [] 1)).seen
 evening_same =
-    calls_rescripted one_held (try_lock_lem (script_of (before ++ (evening ++ before))) 0 [] 1) (try_lock_lem (script_of (before ++ (other_evening ++ before))) 0 [] 1) whole_held
+    calls_rescripted one_held (try_lock (script_of (before ++ (evening ++ before))) 0 [] 1) (try_lock (script_of (before ++ (other_evening ++ before))) 0 [] 1) whole_held
     (try_locks
     (stretch before evening other_evening before ((λ e. omega arith), ((λ e. omega arith), tt)) (steps.neighbours waiters_release_parted) (inl (omega arith))))
 

@@ -1,4 +1,5 @@
 -- Renamings of serials, and two worlds that differ by one: one event in both.
+-- ---- renamings
 use Rattle.std.specs.Prelude.{ℕ, zero, suc, ◌+◌, ◌*◌, ◌≤◌, ◌<◌, ◌≡◌, refl, List, [], ◌∷◌, ◌≢◌, length, set, get_or}
 use Rattle.std.proofs.Common.{sym, ap, ◌∙◌, subst, arith, eq-eqb, ne_eqb}
 use Rattle.std.proofs.Math.Decide.{ℕ_discrete, dec_lt}
@@ -14,8 +15,7 @@ use Rattle.swaps.specs.Logs.{Both}
 use Rattle.swaps.specs.Renaming.{Serials, flip, renamed_owners, renamed, renamed_all}
 use Rattle.swaps.specs.Statements.{Renames, RenamedWords, IssuedStay}
 use Rattle.swaps.specs.Fine.{Fine, fine_on, at}
-
--- ---- renamings
+use Rattle.swaps.specs.Owners.{Renamed, Follows, SeenTwo, at_second, at_first, elsewhere}
 
 module _ {old next : ℕ} {to back : ℕ → ℕ} (z : Serials old next to back) where
   pub into : (s r : ℕ) → to s ≡ to r → s ≡ r
@@ -160,16 +160,6 @@ same_words (suc n) (p ∷ q ∷ r ∷ t) (p' ∷ q' ∷ r' ∷ u) e f b o x =
     let a₂ : r' ≡ r = x 0 (omega arith) in
     ap (λ (k : ℕ). k ∷ q' ∷ r' ∷ u) a₀ ∙ ap (λ (k : ℕ). p ∷ k ∷ r' ∷ u) a₁ ∙ ap (λ (k : ℕ). p ∷ q ∷ k ∷ u) a₂ ∙ ap (λ (v : List ℕ). p ∷ q ∷ r ∷ v) i
 
--- ---- two worlds that differ by a renaming of the owners, cell by cell
-
-pub record Renamed (to : ℕ → ℕ) (w v : World) : Type 0 where
-  pub head : v.head ≡ w.head
-  pub health : v.health ≡ w.health
-  pub words : length v.table ≡ length w.table
-  pub bits : (c : ℕ) → c < cells w → bit_at v.table c ≡ bit_at w.table c
-  pub owners : (c : ℕ) → c < cells w → owner_at v.table c ≡ to (owner_at w.table c)
-  pub waiters : (c : ℕ) → c < cells w → waiters_at v.table c ≡ waiters_at w.table c
-
 pub unrenamed : (w v : World) → v ≡ w → Renamed (λ s. s) w v
 unrenamed w v e =
     subst (λ (u : World). Renamed (λ s. s) w u) (sym e)
@@ -237,9 +227,6 @@ module _ (to : ℕ → ℕ) (w v : World) (f : Fine w) (r : Renamed to w v) wher
       go : Dec (d ≡ c) → waiters_at (set_waiters v.table c n) d ≡ waiters_at (set_waiters w.table c n) d
       go (yes e) = rw e (waiters_set_same v.table c n (omega (arith, at w f c l, r.words)) ∙ sym (waiters_set_same w.table c n (at w f c l)))
       go (no e) = waiters_set_other v.table c n d e ∙ r.waiters d k ∙ sym (waiters_set_other w.table c n d e)
-
-abbrev Follows : (ℕ → ℕ) → World → World → Event → Type 0
-Follows to w v e = Legal v (renamed to e) × Renamed to (after_event w e) (after_event v (renamed to e))
 
 pub follow : {old : ℕ} {to back : ℕ → ℕ} (w v : World) (e : Event) → Fine w → Serials old w.head.next to back → 1 ≤ old → Renamed to w v
     → Legal w e → Follows to w v e
@@ -327,14 +314,6 @@ follow_all {to = to} w v (e ∷ es) f z o r l =
     let p = follow w v e f z o r l.0 in
     let q = follow_all (after_event w e) (after_event v (renamed to e)) es (fine_on w e f l.0) (weaker (omega arith) (grows w e) z) o p.1 l.1 in
     ((p.0, q.0), q.1)
-
--- ---- two takes exchanged, and what follows them renamed
-
-data SeenTwo (t : List ℕ) (c o d o' x : ℕ) : Type 0 where
-  at_first : x ≡ c → bit_at (set_cell (set_cell t c 1 o) d 1 o') x ≡ 1 → owner_at (set_cell (set_cell t c 1 o) d 1 o') x ≡ o → SeenTwo t c o d o' x
-  at_second : x ≡ d → bit_at (set_cell (set_cell t c 1 o) d 1 o') x ≡ 1 → owner_at (set_cell (set_cell t c 1 o) d 1 o') x ≡ o' → SeenTwo t c o d o' x
-  elsewhere : x ≢ c → x ≢ d → bit_at (set_cell (set_cell t c 1 o) d 1 o') x ≡ bit_at t x → owner_at (set_cell (set_cell t c 1 o) d 1 o') x ≡ owner_at t x
-      → SeenTwo t c o d o' x
 
 see_two : (t : List ℕ) (c o d o' x : ℕ) → 3 * c + 1 < length t → 3 * d + 1 < length t → SeenTwo t c o d o' x
 see_two t c o d o' x p q = go (see t c 1 o x p) (see (set_cell t c 1 o) d 1 o' x (omega (arith, length_set_cell t c 1 o)))

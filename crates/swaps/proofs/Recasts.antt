@@ -9,16 +9,9 @@ use Rattle.swaps.specs.Renaming.{Serials, flip, renamed, renamed_all, Recast, sa
 use Rattle.swaps.specs.Statements.{LogsRecast}
 use Rattle.swaps.specs.Fine.{Fine, fine, fine_on}
 use Rattle.swaps.proofs.Pairs.{apart_sym, commute, before, after, takes_swap}
-use Rattle.swaps.proofs.Owners.{Renamed, unrenamed, onto, one_table, weaker, identity, composed, flips, follow_all, grows, grows_now, fine_now, takes_renamed}
-
--- the statement with the worlds compared cell by cell
-record RenamedLogs (w : World) (es fs : List Event) : Type 0 where
-  lawful : Lawful w fs
-  to : ℕ → ℕ
-  back : ℕ → ℕ
-  serials : Serials w.head.next (now w es).head.next to back
-  world : Renamed to (now w es) (now w fs)
-  numbers : (k : Kind) → number_of_lem k fs ≡ number_of_lem k es
+use Rattle.swaps.specs.Owners.{Renamed}
+use Rattle.swaps.proofs.Owners.{unrenamed, onto, one_table, weaker, identity, composed, flips, follow_all, grows, grows_now, fine_now, takes_renamed}
+use Rattle.swaps.specs.Recasts.{RenamedLogs}
 
 renamed_numbers : (to : ℕ → ℕ) (k : Kind) (es : List Event) → number_of_lem k (renamed_all to es) ≡ number_of_lem k es
 unfolding number_of_lem

@@ -1,4 +1,5 @@
 -- Calls over a script of which stretches were shuffled.
+-- ---- a shuffled stretch gives twins
 use Prim.Native.Nat.{ℕ, ◌+◌}
 use Rattle.std.specs.Prelude.{◌≡◌, length}
 use Rattle.std.proofs.Math.Path.{refl}
@@ -32,10 +33,11 @@ use Rattle.swaps.specs.Steps.{Step, Shuffled}
 use Rattle.swaps.specs.Scripts.{script_of, Unended, Respelled, stretch, onward, environments, try_locks, transactionals, acquire_buckets, releases_all, acquires_locks, acquires_sorted}
 use Rattle.swaps.specs.Statements.{CallsRescripted}
 use Rattle.swaps.specs.Fine.{Fine, fine, freed}
-use Rattle.swaps.proofs.Boundaries.{Ran, same_length, shuffled_length, OutsideFine, boundary_alike}
-use Rattle.swaps.proofs.Walks.{Twins, lock_alike, attempt_alike, retry_alike, back_alike, locks_alike}
-
--- ---- a shuffled stretch gives twins
+use Rattle.swaps.specs.Boundaries.{Ran}
+use Rattle.swaps.proofs.Boundaries.{same_length, shuffled_length, OutsideFine, boundary_alike}
+use Rattle.swaps.specs.Walks.{Twins}
+use Rattle.swaps.proofs.Walks.{lock_alike, attempt_alike, retry_alike, back_alike, locks_alike}
+use Rattle.swaps.specs.Rescripts.{SeenAlike, Reply}
 
 -- one compare-and-set damages nothing
 taken_fine : (h : Head) (n : ℕ) (t g : List ℕ) (c : ℕ) → Fine (world_of (spent_to h n) t g)
@@ -72,13 +74,6 @@ module _ (h : Head) (pre ss ts post : List Step) (u : Unended ss) (r : Shuffled 
 judged_two : {A : Type 0} (P : A → A → Type 0) (k : Check) {f : Refusal → A} {m n : A} → ((r : Refusal) → P (f r) (f r)) → P m n → P (judge k f m) (judge k f n)
 judged_two P check.Fine x y = y
 judged_two P (check.Fault r) x y = x r
-
--- two runs of which the same is seen
-abbrev SeenAlike : (A : Type 0) → Made A → Made A → Type 0
-SeenAlike A m n = n.seen ≡ m.seen
-
-abbrev Reply : Type 0
-Reply = ScriptReply × (List ℕ × List ℕ)
 
 module _ {h : Head} {a b : List ℕ} {Good : Ran → Type 0} (tw : Twins h a b Good) (e : length b ≡ length a) (t g : List ℕ) (place : ℕ)
     (x : Good (flow_of h.next place 0, (t, g))) where

@@ -17,17 +17,12 @@ use Rattle.swaps.specs.Steps.{Step, step_words, take_step, leaves, dropped, afte
 use Rattle.swaps.specs.Renaming.{Serials, flip, renamed, renamed_step, renamed_steps, Retaken, same, neighbours, two_takes, idle_take, behind, onward, Older}
 use Rattle.swaps.specs.Statements.{BothLegal, Swapped, StepsRetaken, LiveOlder}
 use Rattle.swaps.specs.Fine.{Fine, fine}
-use Rattle.swaps.proofs.Acts.{Act, idle, never, takes, frees, waits, heals, legal, event, settle, missed, acted, is_legal, read, leaves_is, dropped_is, fine_leaves, swapped, takes_both_ways, idle_take_swap}
+use Rattle.swaps.specs.Acts.{Act, idle, never, takes, frees, waits, heals, legal, event, settle, missed, read}
+use Rattle.swaps.proofs.Acts.{acted, is_legal, leaves_is, dropped_is, fine_leaves, swapped, takes_both_ways, idle_take_swap}
 use Rattle.swaps.proofs.Lists.{fine_all}
-use Rattle.swaps.proofs.Owners.{into, Renamed, follow, weaker, grows, identity, composed, unrenamed, onto, one_table, flips, takes_renamed}
-
-abbrev renamed_act : (ℕ → ℕ) → Act → Act
-renamed_act to idle = idle
-renamed_act to never = never
-renamed_act to (takes c) = takes c
-renamed_act to (frees c s) = frees c (to s)
-renamed_act to (waits c n) = waits c n
-renamed_act to (heals i n) = heals i n
+use Rattle.swaps.specs.Owners.{Renamed}
+use Rattle.swaps.proofs.Owners.{into, follow, weaker, grows, identity, composed, unrenamed, onto, one_table, flips, takes_renamed}
+use Rattle.swaps.specs.Retakes.{renamed_act, RenamedSteps}
 
 module _ {old next : ℕ} {to back : ℕ → ℕ} (z : Serials old next to back) where
   in_renamed : (c s : ℕ) (ps : List Hold) → Older old ps → is_in (hold_of c (to s)) ps ≡ is_in (hold_of c s) ps
@@ -164,16 +159,6 @@ follow_steps {to = to} ps w v (s ∷ ss) f z o r y =
     dropped_is ps v (renamed_step to s) ∙ ap (λ (x : Act). missed (legal ps v x)) (read_renamed to s) ∙ ap missed (legal_renamed ps w v f z o r y (read s)) ∙ sym (dropped_is ps w s) in
     let i = follow_steps ps (leaves ps w s) (leaves ps v (renamed_step to s)) ss (fine_leaves ps w s f) (weaker (omega arith) (grows_leaves ps w s) z) o c y in
     (i.0, omega (arith, i.1))
-
--- ---- one exchange, and what follows it
-
--- the statement with the worlds compared cell by cell
-record RenamedSteps (ps : List Hold) (w : World) (ss ts : List Step) : Type 0 where
-  to : ℕ → ℕ
-  back : ℕ → ℕ
-  serials : Serials w.head.next (after_all ps w ss).head.next to back
-  world : Renamed to (after_all ps w ss) (after_all ps w ts)
-  drops : dropped_in ps w ts ≡ dropped_in ps w ss
 
 -- the same world and as many dropped: nothing is renamed
 unmoved : (ps : List Hold) (w : World) (ss ts : List Step) → after_all ps w ts ≡ after_all ps w ss → dropped_in ps w ts ≡ dropped_in ps w ss

@@ -22,15 +22,8 @@ use Rattle.types.specs.declared.Run.{Run}
 use Rattle.types.specs.declared.Take.{Take}
 use Rattle.types.specs.declared.Take.TheVariants as taking
 use Rattle.types.specs.declared.Tried.{Tried}
-use Rattle.swaps.proofs.Boundaries.{Ran, Same}
-
--- two scripts, and what a call keeps up: then a boundary over either gives one result, and it is kept up by boundaries, takes and releases
-pub record Twins (h : Head) (a b : List ℕ) (Good : Ran → Type 0) : Type 0 where
-  pub boundaries : (ps : List Hold) (f : Flow) (t g : List ℕ) → Good (f, (t, g))
-      → Same Good (boundary_of (given h a ps) f t g).seen (boundary_of (given h b ps) f t g).seen
-  pub takes : (f : Flow) (t g : List ℕ) (c : ℕ) → Good (f, (t, g))
-      → Good (flow_of (take_of f.next t c).seen.0.next f.place f.dropped, ((take_of f.next t c).seen.1, g))
-  pub frees : (f : Flow) (t g : List ℕ) (c : ℕ) → Good (f, (t, g)) → Good (f, (set_cell t c 0 0, g))
+use Rattle.swaps.specs.Boundaries.{Ran, Same}
+use Rattle.swaps.specs.Walks.{Twins}
 
 -- one test in both
 if_two : {A : Type 0} (P : Made A → Made A → Type 0) (c : Bool) {x y u v : Made A} → P x u → P y v → P (if c then x else y) (if c then u else v)

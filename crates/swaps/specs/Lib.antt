@@ -4,3 +4,11 @@ pub mod Renaming
 pub mod Scripts
 pub mod Statements
 pub mod Fine
+pub mod Acts
+pub mod Boundaries
+pub mod Examples
+pub mod Owners
+pub mod Recasts
+pub mod Rescripts
+pub mod Retakes
+pub mod Walks

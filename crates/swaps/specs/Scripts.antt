@@ -1,6 +1,6 @@
 -- Scripts in two orders: the words of the statements.
 use Rattle.std.specs.Prelude.{ℕ, ◌+◌, ◌≤◌, ◌≡◌, List, [], ◌∷◌, ◌++◌, ◌≢◌, ◌⊎◌, length}
-use Rattle.history.specs.Items.{Call, environment, try_lock_lem, transactional, acquire_bucket, release_all_lem, acquire_locks, acquire_sorted}
+use Rattle.history.specs.Items.{Call, environment, try_lock, transactional, acquire_bucket, release_all, acquire_locks, acquire_sorted}
 use Rattle.swaps.specs.Steps.{Step, Shuffled}
 
 -- "A script is a lent run of u32, three words a step": the words of a list of steps
@@ -33,12 +33,12 @@ pub data Respelled (place : ℕ) : List ℕ → List ℕ → Type 0 where
 -- one call from the other: the same but for its script
 pub data Rescripted : Call → Call → Type 0 where
   environments : {a b : List ℕ} {place : ℕ} {held : List ℕ} → Respelled place a b → Rescripted (environment a place held) (environment b place held)
-  try_locks : {a b : List ℕ} {place : ℕ} {held : List ℕ} {c : ℕ} → Respelled place a b → Rescripted (try_lock_lem a place held c) (try_lock_lem b place held c)
+  try_locks : {a b : List ℕ} {place : ℕ} {held : List ℕ} {c : ℕ} → Respelled place a b → Rescripted (try_lock a place held c) (try_lock b place held c)
   transactionals : {a b : List ℕ} {place : ℕ} {registry held : List ℕ} {binding bucket : ℕ} → Respelled place a b
       → Rescripted (transactional registry a place held binding bucket) (transactional registry b place held binding bucket)
   acquire_buckets : {a b : List ℕ} {place : ℕ} {registry held : List ℕ} {binding bucket : ℕ} → Respelled place a b
       → Rescripted (acquire_bucket registry a place held binding bucket) (acquire_bucket registry b place held binding bucket)
-  releases_all : {a b : List ℕ} {place : ℕ} {leases : List ℕ} → Respelled place a b → Rescripted (release_all_lem a place leases) (release_all_lem b place leases)
+  releases_all : {a b : List ℕ} {place : ℕ} {leases : List ℕ} → Respelled place a b → Rescripted (release_all a place leases) (release_all b place leases)
   acquires_locks : {a b : List ℕ} {place : ℕ} {registry held keys grants : List ℕ} → Respelled place a b
       → Rescripted (acquire_locks registry a place held keys grants) (acquire_locks registry b place held keys grants)
   acquires_sorted : {a b : List ℕ} {place : ℕ} {registry held keys grants : List ℕ} → Respelled place a b

@@ -11,7 +11,7 @@ use Rattle.types.specs.declared.Answer.TheVariants.{Refused}
 use Rattle.types.specs.declared.Check.TheVariants.{Fine}
 use Rattle.types.specs.declared.Refusal.TheVariants.{Damaged}
 use Rattle.history.specs.World.{world_of, Live}
-use Rattle.history.specs.Items.{drop_preserving, try_lock_lem, transactional, release_all_lem, acquire_locks, rules}
+use Rattle.history.specs.Items.{drop_preserving, try_lock, transactional, release_all, acquire_locks, rules}
 use Rattle.history.specs.Statements.{answers}
 use Rattle.history.specs.Tests.{held, free, differ}
 use Rattle.upstream.specs.Vocabulary.{Authority, valid, leases_authorized, cell, lease_key, authorized, physical_domain, keys_valid}
@@ -19,17 +19,11 @@ use Rattle.upstream.specs.Premises.{AllOwn, Fits, FirstBad, Own, lease_at}
 use Rattle.upstream.proofs.Bridge.{status_valid, by_name}
 use Rattle.upstream.proofs.TryLock.{try_lock_r1}
 use Rattle.upstream.specs.ContractCells.{RequiresCompareExchange, RequiresStore, RequiresTryAcquire, RequiresDropLease, RequiresReadPermission, RequiresCompetingAcquireIsExcluded, RequiresReleaseThenHandoff}
-use Rattle.upstream.proofs.ContractBorrows.{RequiresInterfere, RequiresEnvironment, RequiresEnvironmentForBorrows, RequiresAcquirePreservingBorrows, RequiresDropPreservingBorrows, RequiresForeignReleaseBetweenAttempts}
-use Rattle.upstream.proofs.ContractLock.{RequiresOtherMutexPreservesLeases, RequiresTryLock}
+use Rattle.upstream.specs.ContractBorrows.{RequiresInterfere, RequiresEnvironment, RequiresEnvironmentForBorrows, RequiresAcquirePreservingBorrows, RequiresDropPreservingBorrows, RequiresForeignReleaseBetweenAttempts}
+use Rattle.upstream.specs.ContractLock.{RequiresOtherMutexPreservesLeases, RequiresTryLock}
 use Rattle.upstream.proofs.ContractBucket.{RequiresGuardsBucket, RequiresTransactionalTryLockBucket, RequiresAcquireIndexBucket, RequiresBucket, RequiresPublicationHeader, RequiresGuardsTransactional, RequiresGuardsAcquireBucket}
 use Rattle.upstream.specs.ContractMultilock.{RequiresReleaseAll, RequiresAcquireIndexLocks}
-
--- an arena of two cells, held by serials 1 and 2
-abbrev pub two_held : Authority
-two_held = world_of (head_of 1 2 3 5) (1 ∷ 1 ∷ 0 ∷ 1 ∷ 2 ∷ 0 ∷ []) (0 ∷ [])
-
-abbrev both : List ℕ
-both = 0 ∷ 1 ∷ 5 ∷ 1 ∷ 2 ∷ 5 ∷ []
+use Rattle.upstream.specs.AllMet.{two_held, both, one_damaged, half_held, mine}
 
 pub met_fits : Fits two_held
 unfolding shape_fits head_fits
@@ -56,30 +50,17 @@ met_own (suc (suc k)) i = absurd (omega arith)
 
 -- `Checked`: calls with and without a script, by cell, by lease, by key, with held lists
 pub met_checked : (first (rules two_held (drop_preserving (0 ∷ 1 ∷ 5 ∷ []) (lease_of 1 2 5))) ≡ Fine)
-    × (first (rules two_held (try_lock_lem [] 0 both 1)) ≡ Fine)
+    × (first (rules two_held (try_lock [] 0 both 1)) ≡ Fine)
     × (first (rules two_held (transactional (0 ∷ []) [] 0 both 0 1)) ≡ Fine)
-    × (first (rules two_held (release_all_lem [] 0 both)) ≡ Fine)
+    × (first (rules two_held (release_all [] 0 both)) ≡ Fine)
     × (first (rules two_held (acquire_locks (0 ∷ []) [] 0 both (0 ∷ 1 ∷ []) (7 ∷ 7 ∷ 7 ∷ []))) ≡ Fine)
 unfolding first shape_fits head_fits health_fits registry_fits leases_of holds_of not_live not_releasable bad_bindings held_lease_rules lock_rules script_rules bucket_rules release_rules
     locks_rules is_in is_live same_hold state_at state_of is_free is_held bit_at owner_at
 met_checked = (refl, refl, refl, refl, refl)
 
--- a cell with bit 1 and no owner: a lock answers 9
-abbrev one_damaged : Authority
-one_damaged = world_of (head_of 1 1 1 5) (1 ∷ 0 ∷ 0 ∷ []) (0 ∷ [])
-
-pub met_damaged : answers one_damaged (try_lock_lem [] 0 [] 0) ≡ Refused (Damaged 0)
+pub met_damaged : answers one_damaged (try_lock [] 0 [] 0) ≡ Refused (Damaged 0)
 unfolding first shape_fits head_fits health_fits leases_of holds_of not_live lock_rules script_rules boundary_of run_steps_of waiters_at bit_at owner_at
 met_damaged = (try_lock_r1 one_damaged [] 0 [] 0 refl (refl, λ v. omega (arith, v.owned.1 refl))).0
-
--- ---- what each contract requires
-
--- two cells, the first held by serial 1, the second free
-abbrev pub half_held : Authority
-half_held = world_of (head_of 1 2 2 5) (1 ∷ 1 ∷ 0 ∷ 0 ∷ 0 ∷ 0 ∷ []) (0 ∷ [])
-
-abbrev mine : List ℕ
-mine = 0 ∷ 1 ∷ 5 ∷ []
 
 half_fits : Fits half_held
 unfolding shape_fits head_fits

@@ -29,14 +29,15 @@ use Rattle.upstream.proofs.Protocol.{step_grants, step_frees, bit_of}
 use Rattle.upstream.proofs.Bridge.{live_cell, cell_live, by_name, by_place, fits_sized, sized_now, by_checks}
 use Rattle.upstream.proofs.Refusing.{unauthorized, on_damaged, over, not_held_lem, held_refused, cell_refused, protected_refused}
 use Rattle.upstream.proofs.Passing.{held_cell_passes, held_lease_passes}
-use Rattle.upstream.proofs.TryAcquire.{Tries, barred, acquired, tries_keys, tries_valid_at, tries_some, tries_held, tries_free, tries_spent, tries_damaged, tries_keeps, fine_fault}
-use Rattle.upstream.proofs.DropLease.{Drops, drops, dropped, drops_valid_at, drops_stays, drops_keeps, drops_done}
+use Rattle.upstream.specs.TryAcquire.{Tries, barred}
+use Rattle.upstream.proofs.TryAcquire.{acquired, tries_keys, tries_valid_at, tries_some, tries_held, tries_free, tries_spent, tries_damaged, tries_keeps, fine_fault}
+use Rattle.upstream.specs.DropLease.{Drops, drops}
+use Rattle.upstream.proofs.DropLease.{dropped, drops_valid_at, drops_stays, drops_keeps, drops_done}
 use Rattle.upstream.proofs.DropLease as drop
-use Rattle.upstream.proofs.OneLease.{Hands, hands, unheld, hands_valid_at, hands_keys, hands_keeps, hands_some, hands_granted, hands_spent}
-
--- the checks before those on cell or lease
-abbrev Before : Authority → List ℕ → List Rule
-Before w held = bad_shape w.head w.table ∷ bad_held w.head w.table held
+use Rattle.upstream.specs.DropLease as drop_said
+use Rattle.upstream.specs.OneLease.{Hands, hands, unheld}
+use Rattle.upstream.proofs.OneLease.{hands_valid_at, hands_keys, hands_keeps, hands_some, hands_granted, hands_spent}
+use Rattle.upstream.specs.Borrows.{Before}
 
 -- ---- `acquire_preserving_borrows`
 
@@ -117,7 +118,7 @@ module _ (w : Authority) (held : List ℕ) (l : Lease) where
   dropping : Drops Checked₂ w (hold_in l) result₂ final₂
   unfolding held_lease_rules
   dropping =
-      by_checks (λ m. Drops Checked₂ w (hold_in l) m.seen.1.answer m.seen.0) w (drop_preserving held l) (λ r e. drop.barred r (λ f. fine_fault f e))
+      by_checks (λ m. Drops Checked₂ w (hold_in l) m.seen.1.answer m.seen.0) w (drop_preserving held l) (λ r e. drop_said.barred r (λ f. fine_fault f e))
       (λ e k. drops (dropped w (hold_in l) (fits_sized w (not-false _ k.0)) (not-false _ (clear_back (Before w held) _ k).1.0)))
 
   -- valid(old(authority)): 12, where the lease's cell is damaged
@@ -158,7 +159,7 @@ module _ (w : Authority) (held : List ℕ) (l : Lease) where
     where
       go : {a : Answer} {v : Authority} → Drops Checked₂ w (hold_in l) a v → dom v ≡ dom w
       go (drops x) = x.written.same_keys
-      go (drop.barred r f) = refl
+      go (drop_said.barred r f) = refl
 
   pub drop_preserving_borrows_e5 : Fits w → Short w held → leases_valid w (holds_of held) → valid_at w (lease_key (hold_in l)) → Own w l → authorized w (hold_in l) → leases_authorized w (holds_of held) → (held_ids (holds_of held) (hold_in l) → ⊥)
       → (cells final₂ (lease_key (hold_in l))).bit ≡ 0

@@ -1,4 +1,5 @@
 -- From document 01's words to upstream's: valid and authorized, events and steps, refusals.
+-- ---- valid: no cell is damaged
 use Rattle.std.specs.Prelude.{ℕ, zero, suc, ◌+◌, ◌*◌, ◌≤◌, ◌<◌, ◌≡◌, refl, List, [], ◌∷◌, ◌++◌, true, ◌⊎◌, length}
 use Rattle.std.proofs.Common.{sym, ap, ◌∙◌, subst, inl, inr, arith, eq-eqb, ne_eqb}
 use Rattle.std.proofs.Math.Decide.{dec_lt}
@@ -21,9 +22,9 @@ use Rattle.history.specs.Judged.{past_checks, clear_fine, performed_by}
 use Rattle.history.proofs.Shared.{in_place}
 use Rattle.upstream.specs.Vocabulary.{Key, Cell, cell, Authority, Leases, next_serial, dom, contains_key, cells, insert, CellsAre, ValidCell, valid, authorized, framed, Acquires, Step, Acquire, Release, Observe, step, releases, protected_valid, held_ids, leases_authorized}
 use Rattle.upstream.specs.Premises.{lease_at, keeps_valid, leases_valid}
-use Rattle.upstream.proofs.Protocol.{Trace, ended, first as one, trace_keeps_one, trace_buries, step_grants}
-
--- ---- valid: no cell is damaged
+use Rattle.upstream.specs.Protocol.{Trace, ended, first as one}
+use Rattle.upstream.proofs.Protocol.{trace_keeps_one, trace_buries, step_grants}
+use Rattle.upstream.specs.Bridge.{event_of, Sized}
 
 pub status_valid : (next : ℕ) (c : Cell) → Status c.bit c.owner next → ValidCell next c
 status_valid next c (is_free_lem p q) = record { bits = inl p; owned = (λ s. absurd (omega arith), λ b. absurd (omega arith)); below = λ s. absurd (omega arith) }
@@ -107,25 +108,6 @@ hold_at_lem (c ∷ []) i = refl
 hold_at_lem (c ∷ s ∷ []) i = refl
 hold_at_lem (c ∷ s ∷ b ∷ ws) zero = refl
 hold_at_lem (c ∷ s ∷ b ∷ ws) (suc i) = hold_at_lem ws i
-
--- ---- events: a take is an Acquire, a release a Release, all else an Observe
-
-abbrev pub event_of : Event → Step
-event_of attempt_begun = Observe
-event_of boundary_run = Observe
-event_of yielded = Observe
-event_of spun = Observe
-event_of step_dropped = Observe
-event_of (took a c s) = Acquire c s
-event_of (released a c s) = Release c s
-event_of (waiters_set c n) = Observe
-event_of (health_set i n) = Observe
-event_of (held_all_lem m) = Observe
-event_of (added m c v) = Observe
-
--- "Table: a lent run of u32 of exactly 3 x H x B words"; every call refuses another by 1
-abbrev pub Sized : Authority → Type 0
-Sized w = (length w.table ≡ 3 * dom w) × (1 ≤ next_serial w)
 
 pub fits_sized : (w : Authority) → shape_fits w.head (length w.table) ≡ true → Sized w
 fits_sized w e = let s = shaped w.head (length w.table) e in (s.words_are, s.low)

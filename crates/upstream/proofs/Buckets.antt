@@ -38,7 +38,8 @@ use Rattle.upstream.proofs.TryAcquire.{fine_fault}
 use Rattle.upstream.specs.Keys.{answer_granted, settled_granted, GrantedAt, attempt_key, retry_key}
 use Rattle.upstream.specs.Resolve.{find_6, find_at}
 use Rattle.upstream.proofs.Scripts.{Ready, attempt_goes, retry_goes}
-use Rattle.upstream.proofs.Environment.{Went, unmoved, held_live}
+use Rattle.upstream.specs.Environment.{Went}
+use Rattle.upstream.proofs.Environment.{unmoved, held_live}
 use Rattle.upstream.proofs.TryLock.{lock_damaged}
 
 -- ---- the calls
@@ -124,9 +125,9 @@ module _ (w : Authority) (registry script : List ℕ) (place : ℕ) (held : List
   many_refused f x a =
       by_checks (λ m. m.seen.1.answer ≡ Refused x) w many (λ r e. absurd (fine_fault f e)) (λ e k. ap (λ (o : Outcome). answer_of w.head.boot (settled o)) (at_once 4095 x a))
 
-  bad_key_lem : (x : Refusal) → find₁ ≡ found.Fault x → attempted ≡ outcome.Refused x
+  bad_key : (x : Refusal) → find₁ ≡ found.Fault x → attempted ≡ outcome.Refused x
   unfolding attempt_of
-  bad_key_lem x e = ap (λ (f : Found). (attempt_at f setting w.head.buckets begun w.table w.health).seen.0.outcome) e
+  bad_key x e = ap (λ (f : Found). (attempt_at f setting w.head.buckets begun w.table w.health).seen.0.outcome) e
 
   damaged_key : (c : Key) → find₁ ≡ found.At c → SwapDamaged w script place held c → attempted ≡ outcome.Refused (Damaged c)
   unfolding attempt_of
@@ -163,7 +164,7 @@ module _ (w : Authority) (registry script : List ℕ) (place : ℕ) (held : List
 
   -- physical_domain(driver, old(authority)): 6 with the header, where the key's header is not in the arena
   pub transactional_try_lock_bucket_r4 : Checked → w.head.headers ≤ header₁ → answers w one ≡ Refused (BadHeader header₁)
-  transactional_try_lock_bucket_r4 f l = one_refused f (BadHeader header₁) (bad_key_lem (BadHeader header₁) ((find_6 w registry binding bucket).1 l))
+  transactional_try_lock_bucket_r4 f l = one_refused f (BadHeader header₁) (bad_key (BadHeader header₁) ((find_6 w registry binding bucket).1 l))
 
   pub transactional_try_lock_bucket_e1 : keeps_valid w (leaves w one)
   transactional_try_lock_bucket_e1 = trace_valid_at one_went.trace
@@ -193,7 +194,7 @@ module _ (w : Authority) (registry script : List ℕ) (place : ℕ) (held : List
   acquire_index_bucket_r3 i k b f = refused_so w many (BadHeld i) (unheld i k b f)
 
   pub acquire_index_bucket_r4 : Checked → w.head.headers ≤ header₁ → answers w many ≡ Refused (BadHeader header₁)
-  acquire_index_bucket_r4 f l = many_refused f (BadHeader header₁) (bad_key_lem (BadHeader header₁) ((find_6 w registry binding bucket).1 l))
+  acquire_index_bucket_r4 f l = many_refused f (BadHeader header₁) (bad_key (BadHeader header₁) ((find_6 w registry binding bucket).1 l))
 
   pub acquire_index_bucket_valid : valid w → valid (leaves w many)
   acquire_index_bucket_valid v = trace_valid many_went.trace v

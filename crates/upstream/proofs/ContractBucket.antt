@@ -11,7 +11,7 @@ use Rattle.types.specs.declared.Lease.{Lease}
 use Rattle.types.specs.declared.Refusal.TheVariants.{BadScript, BadHeld, BadBinding, BadHeader, Poisoned, InvalidBucket, Damaged}
 use Rattle.history.specs.World.{World, yields, number_of_lem}
 use Rattle.history.specs.Items.{Call, transactional, acquire_bucket, Says, unchanged, Build}
-use Rattle.history.specs.Statements.{answer_in_lem as result, world_in as final}
+use Rattle.history.specs.Statements.{answer_in as result, world_in as final}
 use Rattle.upstream.specs.Vocabulary.{Key, Authority, lease_key, dom, contains_key, valid, authorized, leases_authorized, key_of, physical_domain, bucket_request_valid, physical, guards_place}
 use Rattle.upstream.specs.Premises.{keeps_valid, Fits, FirstBad, Keyed, SwapDamaged, WholeKeyed, Passes, KeyedHeldGood, WellLong, header_at, KeyFound}
 use Rattle.upstream.proofs.Health.{ReadAgain, ReadsPoison}

@@ -1,5 +1,6 @@
 -- 000: `interfere`, `environment` and `environment_for_borrows` where the table is not `valid`. Nothing is refused:
 -- others take no damaged cell and release none, such a step is dropped and counted; they may set its waiters.
+-- ---- a cell that is not valid, through a lawful log
 use Rattle.std.specs.Prelude.{ℕ, zero, suc, ◌+◌, ◌≤◌, ◌<◌, ◌*◌, ◌%◌, ◌-◌, ◌≡◌, List, [], ◌∷◌, ◌++◌, false, not, ◌&&◌, ◌||◌, ◌⊎◌, ◌≢◌, ltb, eqb, get_or, length}
 use Rattle.std.proofs.Math.Path.{refl}
 use Rattle.std.proofs.Common.{sym, ap, ◌∙◌, subst, inl, inr, arith, lt-ltb, ne_eqb, eqb-true, ltb-false, eq-eqb, le-ltb, length-append, get_or-append-add}
@@ -22,19 +23,18 @@ use Rattle.laws.specs.Words.{bit_set_other, owner_set_other, bit_set_waiters, ow
 use Rattle.history.specs.World as world
 use Rattle.history.specs.World.{World, world_of, Legal, Lawful, now}
 use Rattle.history.specs.Items.{Call, Says, environment, perform, says, Build}
-use Rattle.history.specs.Statements.{leaves, log_of, answer_in_lem, world_in}
+use Rattle.history.specs.Statements.{leaves, log_of, answer_in, world_in}
 use Rattle.history.proofs.Theorems.{lawful_always}
 use Rattle.history.proofs.Logs.{next_now, lawful_split}
 use Rattle.history.specs.Tests.{if_cases, free as is_free_lem, free_words, is_free_state}
-use Rattle.history.proofs.Steps.{of_flow, With}
+use Rattle.history.specs.Steps.{of_flow, With}
 use Rattle.history.specs.Judged.{past_checks, clear_fine}
 use Rattle.upstream.specs.Vocabulary.{Key, Cell, Authority, next_serial, dom, contains_key, cells, ValidCell, valid}
 use Rattle.upstream.specs.Premises.{valid_at, Passes}
 use Rattle.upstream.proofs.Bridge.{status_valid, live_cell, by_checks}
 use Rattle.upstream.proofs.Refusing.{on_damaged}
 use Rattle.upstream.proofs.TryAcquire.{fine_fault}
-
--- ---- a cell that is not valid, through a lawful log
+use Rattle.upstream.specs.Damage.{Damage, DropsDamaged, waited, SetsWaiters}
 
 -- a cell's words that are valid stay so under a later next serial
 later : (n m : ℕ) (c : Cell) → n ≤ m → ValidCell n c → ValidCell m c
@@ -90,17 +90,6 @@ release_dropped w ps c s n =
     if_cases (λ (m : Made (Stepped × List ℕ)). m ≡ drops (next_serial w) w.table) (is_live (next_serial w) (dom w) w.table (hold_of c s) && not (is_in (hold_of c s) ps))
     (λ e. absurd (on_damaged w (hold_of c s) n (both (is_live (next_serial w) (dom w) w.table (hold_of c s)) (not (is_in (hold_of c s) ps)) e).0)) (λ e. refl)
 
--- ---- the call, with any script
-
--- valid(old(authority)): from any table, whatever the script, a cell that is damaged to the end keeps its bit and its
--- owner; and no step takes a cell, or releases a lease on one, that is damaged at that point of the log
-pub record Damage (w : Authority) (m : Made (World × Says)) : Type 0 where
-  pub stays : (c : Key) → (ValidCell (next_serial (world_in m)) (cells w c) → ⊥) → cells (world_in m) c ≡ cells w c
-  pub not_taken : (a : Actor) (c : Key) (s : ℕ) (before after : List Event)
-      → m.log ≡ before ++ (took a c s ∷ after) → valid_at (now w before) c
-  pub not_released : (a : Actor) (c : Key) (s : ℕ) (before after : List Event)
-      → m.log ≡ before ++ (released a c s ∷ after) → valid_at (now w before) c
-
 -- so it is of every call, not of `environment` alone
 pub damage : (w : Authority) (k : Call) → Damage w (perform w k)
 damage w k =
@@ -127,21 +116,6 @@ still_damaged w k c n i v =
 
 pub environment_r1 : (w : Authority) (script : List ℕ) (place : ℕ) (held : List ℕ) → Damage w (perform w (environment script place held))
 environment_r1 w script place held = damage w (environment script place held)
-
--- ---- such a step is dropped and counted, at whatever point of a boundary
-
--- a take or a release behind any script that has no end mark from the place on, so that the boundary comes to it: the
--- arena is as without it, and one drop more is counted
-abbrev pub DropsDamaged : Build → Type 0
-DropsDamaged b =
-    (w : Authority) (script : List ℕ) (place : ℕ) (held : List ℕ) (kind c number : ℕ)
-    → (kind ≡ 1) ⊎ (kind ≡ 2) → steps_in script < 32768
-    → ((i : ℕ) → place ≤ i → i < steps_in script → kind_at script i ≢ 5)
-    → let m = b w (environment script place held) in
-    let n = b w (environment (script ++ (kind ∷ c ∷ number ∷ [])) place held) in
-    answer_in_lem m ≡ Done → (valid_at (world_in m) c → ⊥)
-    → (world_in n ≡ world_in m) × (n.seen.1.place ≡ m.seen.1.place + 1)
-    × (n.seen.1.counts.dropped ≡ m.seen.1.counts.dropped + 1)
 
 -- one turn that is no end mark
 on_turn : (left : ℕ) (e : Setting) (n p d : ℕ) (t g : List ℕ) → eqb (kind_at e.script p) 5 ≡ false
@@ -231,7 +205,7 @@ module _ (w : Authority) (script : List ℕ) (held : List ℕ) (c number : ℕ) 
 pub drops_damaged : DropsDamaged perform
 unfolding script_rules boundary_of
 drops_damaged w script place held kind c number k l u =
-    by_checks (λ m. answer_in_lem m ≡ Done → (valid_at (world_in m) c → ⊥)
+    by_checks (λ m. answer_in m ≡ Done → (valid_at (world_in m) c → ⊥)
     → (world_in next ≡ world_in m) × (next.seen.1.place ≡ m.seen.1.place + 1) × (next.seen.1.counts.dropped ≡ m.seen.1.counts.dropped + 1))
     w (environment script place held) (λ r e q n. absurd (omega (arith, ap kind_of q)))
     (λ e x q n.
@@ -269,18 +243,6 @@ drops_damaged w script place held kind c number k l u =
     same : length script % 3 ≡ 0 → place ≤ steps_in script → (valid_at (of_flow w.head ran) c → ⊥)
         → (of_flow w.head both_ran ≡ of_flow w.head ran) × (both_ran.0.place ≡ ran.0.place + 1) × (both_ran.0.dropped ≡ ran.0.dropped + 1)
     same e p n = rw (one e p n) (refl, refl, refl)
-
--- what is left and said where one step sets a cell's waiters
-abbrev pub waited : Authority → Key → ℕ → World × Says
-waited w c number =
-    (world_of w.head (set_waiters w.table c number) w.health, says Done (counts_of 0 1 0 0) 1 [])
-
--- so it is of a damaged cell as of any: that step is not dropped
-abbrev pub SetsWaiters : Build → Type 0
-SetsWaiters b =
-    (w : Authority) (held : List ℕ) (c number : ℕ)
-    → Passes w (environment (3 ∷ c ∷ number ∷ []) 0 held) → contains_key w c
-    → (b w (environment (3 ∷ c ∷ number ∷ []) 0 held)).seen ≡ waited w c number
 
 pub sets_waiters : SetsWaiters perform
 unfolding boundary_of run_steps_of step_of step_waiters_of

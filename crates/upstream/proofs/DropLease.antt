@@ -1,4 +1,5 @@
 -- 000: `drop_lease`, and the store inside it (`Atomics::store`).
+-- ---- what one release comes to, whatever the table holds; F says that no check of the call applies
 use Rattle.std.specs.Prelude.{◌≡◌, refl, ◌≢◌}
 use Rattle.std.proofs.Common.{sym}
 use Rattle.std.proofs.lemmas.Bool.{not-false}
@@ -22,16 +23,12 @@ use Rattle.history.specs.Tests.{holds_equal}
 use Rattle.upstream.specs.Vocabulary.{cell, Authority, lease_key, lease_serial, next_serial, contains_key, cells, insert, CellsAre, ValidCell, authorized, framed, Release, GivesUp, step}
 use Rattle.upstream.specs.Premises.{Own, valid_at, keeps_valid, Fits}
 use Rattle.upstream.proofs.Protocol.{insert_framed, step_valid_at, step_keeps, step_frees}
-use Rattle.upstream.proofs.Bridge.{Sized, fits_sized, event_step, by_checks}
+use Rattle.upstream.specs.Bridge.{Sized}
+use Rattle.upstream.proofs.Bridge.{fits_sized, event_step, by_checks}
 use Rattle.upstream.proofs.Refusing.{unauthorized, on_damaged, lease_refused}
 use Rattle.upstream.proofs.Passing.{lease_passes}
 use Rattle.upstream.proofs.TryAcquire.{fine_fault}
-
--- ---- what one release comes to, whatever the table holds; F says that no check of the call applies
-
-pub data Drops (F : Type 0) (w : Authority) (l : Hold) : Answer → Authority → Type 0 where
-  drops : {v : Authority} → GivesUp w v l.cell l.serial → Drops F w l Done v
-  barred : (r : Refusal) → (F → ⊥) → Drops F w l (Refused r) w
+use Rattle.upstream.specs.DropLease.{Drops, drops, barred}
 
 pub dropped : (w : Authority) (l : Hold) → Sized w → Live w l → GivesUp w (world.after_event w (released by_caller l.cell l.serial)) l.cell l.serial
 dropped w l z v = event_step w (released by_caller l.cell l.serial) z v

@@ -1,5 +1,6 @@
 -- 000: `Scheduler::interfere`, `environment` and `environment_for_borrows`: one boundary of the script, a trace of
 -- upstream's steps.
+-- ---- what a call with a script comes to: a trace that releases no held lease; what it grants is authorized
 use Rattle.std.specs.Prelude.{ℕ, ◌≡◌, false}
 use Rattle.std.proofs.Common.{sym, ap, subst, arith}
 use mathlib.Core.List.{List, [], ◌∷◌, ◌++◌, append-nil}
@@ -23,16 +24,12 @@ use Rattle.history.specs.HeldLists.{clear_live}
 use Rattle.history.specs.World.{Live}
 use Rattle.upstream.specs.Vocabulary.{Authority, Leases, next_serial, dom, authorized, protected_valid, held_ids, leases_authorized, legal_environment, no_resurrection}
 use Rattle.upstream.specs.Premises.{keeps_valid, FirstBad}
-use Rattle.upstream.proofs.Protocol.{Trace, ended, trace_valid_at, trace_keeps, trace_buries, trace_legal}
+use Rattle.upstream.specs.Protocol.{Trace, ended}
+use Rattle.upstream.proofs.Protocol.{trace_valid_at, trace_keeps, trace_buries, trace_legal}
 use Rattle.upstream.proofs.Bridge.{by_name, by_place, fits_sized, by_checks}
 use Rattle.upstream.proofs.Refusing.{held_refused}
 use Rattle.upstream.proofs.Scripts.{boundary_goes}
-
--- ---- what a call with a script comes to: a trace that releases no held lease; what it grants is authorized
-
-pub record Went (w : Authority) (ps : List Hold) (a : Answer) (v : Authority) : Type 0 where
-  pub trace : Trace (held_ids ps) w v
-  pub gain : (l : Lease) → a ≡ Granted l → authorized v (hold_in l)
+use Rattle.upstream.specs.Environment.{Went}
 
 pub unmoved : {w : Authority} {ps : List Hold} (r : Refusal) → Went w ps (Refused r) w
 unmoved {w} r = record { trace = ended w; gain = λ l e. absurd (omega (arith, ap kind_of e)) }

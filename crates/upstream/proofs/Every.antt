@@ -1,6 +1,7 @@
 -- 000: the rows over scripts stand for upstream's "every legal environment". Here is why: every finite legal trace of
 -- other actors that a script has room for is what some script does at a boundary, state by state, with no step dropped.
 -- Room: at most 32,768 steps, and a serial for each take.
+-- ---- one authority in upstream's sense: the same cells, the same next serial
 use Prim.Native.Nat.{ℕ, zero, suc, ◌+◌, ◌*◌, ◌-◌, ◌%◌, ◌≤◌, ◌<◌}
 use Rattle.std.specs.Prelude.{◌≡◌, refl, List, [], ◌∷◌, ◌++◌, Bool, true, false, not, eqb, get_or, if◌then◌else◌}
 use Rattle.std.proofs.Math.Path.{sym, subst}
@@ -22,15 +23,15 @@ use Rattle.laws.specs.Words.{length_set_cell}
 use Rattle.history.specs.Items.{environment, perform, rules}
 use Rattle.history.specs.Statements.{leaves}
 use Rattle.history.specs.Tests.{In}
-use Rattle.history.proofs.Steps.{world_at, With, of_flow}
+use Rattle.history.specs.Steps.{world_at, With, of_flow}
 use Rattle.upstream.specs.Vocabulary.{Key, Cell, cell, Authority, LeaseId, next_serial, dom, contains_key, cells, insert, CellsAre, valid, authorized, Step, Acquire, Release, Observe, step, releases, held_ids, leases_authorized, environment_trace}
 use Rattle.upstream.specs.Premises.{Fits, Short}
 use Rattle.upstream.proofs.Protocol.{in_list, first_of, rest_of, legal_trace, trace_buries, step_keys, step_valid, step_keeps, bit_of, owner_of}
-use Rattle.upstream.proofs.Bridge.{authorized_live, valid_leases, Sized, fits_sized, put_cells, by_checks}
+use Rattle.upstream.specs.Bridge.{Sized}
+use Rattle.upstream.proofs.Bridge.{authorized_live, valid_leases, fits_sized, put_cells, by_checks}
 use Rattle.upstream.proofs.Passing.{not_so, script_passes}
 use Rattle.upstream.proofs.TryAcquire.{fine_fault}
-
--- ---- one authority in upstream's sense: the same cells, the same next serial
+use Rattle.upstream.specs.Every.{kind_in, place_in, number_in, script_for, Reads}
 
 abbrev pub Alike : Authority → Authority → Type 0
 Alike a u = step a u Observe
@@ -53,32 +54,6 @@ written_alike a b u v k c c' l x y e =
           let in_u : contains_key u j = omega (arith, x.same_keys, l.same_keys) in
           y.each j in_u ∙ insert_alike (cells u) (cells a) k c' c j (l.each j in_a) (sym e) ∙ sym (x.each j in_a);
     }
-
--- ---- an event as a step of a script: kind, place, number
-
-abbrev pub kind_in : Step → ℕ
-kind_in (Acquire k s) = 1
-kind_in (Release k s) = 2
-kind_in Observe = 0
-
-abbrev pub place_in : Step → ℕ
-place_in (Acquire k s) = k
-place_in (Release k s) = k
-place_in Observe = 0
-
-abbrev pub number_in : Step → ℕ
-number_in (Acquire k s) = 0
-number_in (Release k s) = s
-number_in Observe = 0
-
-unfoldable pub script_for : List Step → List ℕ
-script_for [] = []
-script_for (e ∷ es) = kind_in e ∷ place_in e ∷ number_in e ∷ script_for es
-
--- the events stand in the script from place p on
-abbrev pub Reads : List ℕ → ℕ → List Step → Type 0
-Reads script p [] = Unit {0}
-Reads script p (e ∷ es) = (kind_at script p ≡ kind_in e) × ((place_at script p ≡ place_in e) × ((number_at script p ≡ number_in e) × Reads script (p + 1) es))
 
 pub length_for : (es : List Step) → length (script_for es) ≡ 3 * length es
 unfolding script_for
@@ -232,7 +207,7 @@ module _ (h : Head) (script : List ℕ) (ps : List Hold) where
   -- ---- a boundary: the events stand in the script from place p on, and behind them a 5 or the script's end
 
   pub data Stops (q : ℕ) : ℕ → Type 0 where
-    at_end_lem : steps_in script ≡ q → Stops q q
+    at_end : steps_in script ≡ q → Stops q q
     at_five : q < steps_in script → kind_at script q ≡ 5 → Stops q (q + 1)
 
   pub record Bounded (n p d : ℕ) (t g : List ℕ) (b : Authority) (place : ℕ) : Type 0 where
@@ -243,7 +218,7 @@ module _ (h : Head) (script : List ℕ) (ps : List Hold) where
 
   stopped : (q place n d : ℕ) (t g : List ℕ) → Stops q place → (run_steps_of (steps_in script - q) around (flow_of n q d) t g).seen ≡ (flow_of n place d, (t, g))
   unfolding run_steps_of
-  stopped q place n d t g (at_end_lem e) = let x : steps_in script - q ≡ 0 = omega (arith, e) in rw x
+  stopped q place n d t g (at_end e) = let x : steps_in script - q ≡ 0 = omega (arith, e) in rw x
   stopped q place n d t g (at_five l e) = let x : steps_in script - q ≡ suc (steps_in script - q - 1) = omega (arith, l) in rw (x, e)
 
   -- whatever stands before and behind in the script, the boundary does what the trace does; no step is dropped, and
@@ -265,7 +240,7 @@ module _ (h : Head) (script : List ℕ) (ps : List Hold) where
       }
     where
       reach : {q : ℕ} → Stops (p + length events) q → steps_in script - p ≡ length events + (steps_in script - (p + length events))
-      reach (at_end_lem e) = omega (arith, e)
+      reach (at_end e) = omega (arith, e)
       reach (at_five l e) = omega (arith, l)
 
 -- ---- such a script
@@ -404,7 +379,7 @@ every_environment w after held states events s g b v p r few m = (
     boundary : Bounded w.head script (holds_of held) (next_serial w) 0 0 w.table w.health after (0 + length events)
     boundary =
         boundary_does w.head script (holds_of held) (next_serial w) 0 0 w.table w.health events states w after (0 + length events) r reading
-        (at_end_lem (many ∙ (let z : length events ≡ 0 + length events = omega arith in z))) (fits_sized w s) alike_self v m
+        (at_end (many ∙ (let z : length events ≡ 0 + length events = omega arith in z))) (fits_sized w s) alike_self v m
 
     whole : Alike after (leaves w (environment script 0 held)) × ((perform w (environment script 0 held)).seen.1.counts.dropped ≡ 0)
     whole =

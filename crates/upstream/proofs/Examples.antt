@@ -1,5 +1,6 @@
 -- Computed cases: where another cell is damaged, which of upstream's ensures fail and which stand; 7 at a second reading;
 -- others on a damaged cell.
+-- ---- another cell is damaged
 use Rattle.std.specs.Prelude.{ℕ, ◌≡◌, refl, [], ◌∷◌}
 use Rattle.std.proofs.Common.{arith}
 use Rattle.model.specs.Arena.{head_of, lease_of, leases_of, holds_of, bit_at, owner_at, waiters_at, set_cell, is_in, is_free, is_held, state_of, state_at, is_live, head_fits, shape_fits, health_fits, registry_fits, set_waiters}
@@ -11,22 +12,17 @@ use Rattle.model.specs.Calls.{acquire_of, try_acquire_of, try_lock_of, transacti
 use Rattle.types.specs.declared.Answer.TheVariants.{Granted, Refused, Done}
 use Rattle.types.specs.declared.Refusal.TheVariants.{Poisoned}
 use Rattle.history.specs.World.{world_of}
-use Rattle.history.specs.Items.{try_acquire_lem, try_lock_lem, transactional, perform, environment, acquire_bucket, says}
+use Rattle.history.specs.Items.{try_acquire, try_lock, transactional, perform, environment, acquire_bucket, says}
 use Rattle.history.specs.Statements.{answers, leaves}
-use Rattle.history.specs.Tests.{held as held_by_lem}
+use Rattle.history.specs.Tests.{held as held_by}
 use Rattle.upstream.specs.Vocabulary.{cell, Authority, cells, ValidCell, valid, physical_domain}
 use Rattle.upstream.specs.Premises.{valid_at}
 use Rattle.upstream.proofs.Bridge.{status_valid}
-use Rattle.upstream.proofs.Damage.{waited, still_damaged}
+use Rattle.upstream.specs.Damage.{waited}
+use Rattle.upstream.proofs.Damage.{still_damaged}
+use Rattle.upstream.specs.Examples.{half_broken, owner_ahead, lone_free}
 
--- ---- another cell is damaged
-
--- two cells: the first free, the second with bit 1 and no owner. `try_acquire`, `try_lock` and an attempt by key take the first: of what upstream ensures of
--- them `valid(final(authority))` alone fails
-abbrev pub half_broken : Authority
-half_broken = world_of (head_of 1 2 1 5) (0 ∷ 0 ∷ 0 ∷ 1 ∷ 0 ∷ 0 ∷ []) (0 ∷ [])
-
-pub granted_beside : (answers half_broken (try_acquire_lem 0) ≡ Granted (lease_of 0 1 5)) × (answers half_broken (try_lock_lem [] 0 [] 0) ≡ Granted (lease_of 0 1 5))
+pub granted_beside : (answers half_broken (try_acquire 0) ≡ Granted (lease_of 0 1 5)) × (answers half_broken (try_lock [] 0 [] 0) ≡ Granted (lease_of 0 1 5))
     × (answers half_broken (transactional (0 ∷ []) [] 0 [] 0 0) ≡ Granted (lease_of 0 1 5))
 unfolding perform try_acquire_of cell_rules acquire_of try_lock_of transactional_of lock_rules script_rules bucket_rules registry_fits not_live first shape_fits head_fits health_fits leases_of holds_of boundary_of run_steps_of
     lock_of second_stage_of take_of late_stage_of find_of attempt_of waiters_at bit_at owner_at set_cell state_at state_of is_free is_held
@@ -35,30 +31,20 @@ granted_beside = (refl, refl, refl)
 never_sound : (n : ℕ) → ValidCell n (cell 1 0) → ⊥
 never_sound n v = omega (arith, v.owned.1 refl)
 
-pub not_valid_beside : (valid (leaves half_broken (try_acquire_lem 0)) → ⊥) × (valid (leaves half_broken (try_lock_lem [] 0 [] 0)) → ⊥)
+pub not_valid_beside : (valid (leaves half_broken (try_acquire 0)) → ⊥) × (valid (leaves half_broken (try_lock [] 0 [] 0)) → ⊥)
     × (valid (leaves half_broken (transactional (0 ∷ []) [] 0 [] 0 0)) → ⊥)
 unfolding perform try_acquire_of cell_rules acquire_of try_lock_of transactional_of lock_rules script_rules bucket_rules registry_fits not_live first shape_fits head_fits health_fits leases_of holds_of boundary_of run_steps_of
     lock_of second_stage_of take_of late_stage_of find_of attempt_of waiters_at bit_at owner_at set_cell state_at state_of is_free is_held
 not_valid_beside = (
-  still_damaged half_broken (try_acquire_lem 0) 1 never_sound (omega arith),
-  still_damaged half_broken (try_lock_lem [] 0 [] 0) 1 never_sound (omega arith),
+  still_damaged half_broken (try_acquire 0) 1 never_sound (omega arith),
+  still_damaged half_broken (try_lock [] 0 [] 0) 1 never_sound (omega arith),
   still_damaged half_broken (transactional (0 ∷ []) [] 0 [] 0 0) 1 never_sound (omega arith),
 )
 
--- a cell that is damaged since its owner was never issued can come to be valid when next passes that owner, and then two cells have one owner. Upstream's
--- ensures say nothing against it; `Sound` of crate `history` does, and a salvage mends such a cell
-abbrev pub owner_ahead : Authority
-owner_ahead = world_of (head_of 1 2 1 5) (0 ∷ 0 ∷ 0 ∷ 1 ∷ 1 ∷ 0 ∷ []) (0 ∷ [])
-
-pub comes_valid : (valid_at owner_ahead 1 → ⊥) × valid_at (leaves owner_ahead (try_acquire_lem 0)) 1
-    × (cells (leaves owner_ahead (try_acquire_lem 0)) 0 ≡ cell 1 1) × (cells (leaves owner_ahead (try_acquire_lem 0)) 1 ≡ cell 1 1)
+pub comes_valid : (valid_at owner_ahead 1 → ⊥) × valid_at (leaves owner_ahead (try_acquire 0)) 1
+    × (cells (leaves owner_ahead (try_acquire 0)) 0 ≡ cell 1 1) × (cells (leaves owner_ahead (try_acquire 0)) 1 ≡ cell 1 1)
 unfolding perform try_acquire_of cell_rules acquire_of first shape_fits head_fits take_of bit_at owner_at set_cell state_at state_of is_free is_held
-comes_valid = (λ v. omega (arith, v.below (omega arith)), status_valid 2 (cell 1 1) (held_by_lem refl (omega arith) (omega arith)), refl, refl)
-
--- ---- another binding is outside the arena: `physical_domain` fails, and the call on a binding inside is granted
-
-abbrev pub lone_free : Authority
-lone_free = world_of (head_of 1 1 1 5) (0 ∷ 0 ∷ 0 ∷ []) (0 ∷ [])
+comes_valid = (λ v. omega (arith, v.below (omega arith)), status_valid 2 (cell 1 1) (held_by refl (omega arith) (omega arith)), refl, refl)
 
 pub granted_inside : (physical_domain (0 ∷ 9 ∷ []) lone_free → ⊥) × (answers lone_free (transactional (0 ∷ 9 ∷ []) [] 0 [] 0 0) ≡ Granted (lease_of 0 1 5))
 unfolding perform transactional_of bucket_rules registry_fits not_live first shape_fits head_fits health_fits leases_of holds_of boundary_of run_steps_of

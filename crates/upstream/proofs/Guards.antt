@@ -1,5 +1,6 @@
 -- 001: `Primitives::try_lock` and `acquire_index_locks`. A guard is a lease here: its cell tells header and bucket, and
 -- it is in the arena.
+-- ---- a cell number tells header and bucket
 use Prim.Native.Nat.{ℕ, zero, suc, ◌+◌, ◌*◌, ◌/◌, ◌%◌, ◌≤◌, ◌<◌}
 use Rattle.std.specs.Prelude.{◌≡◌, false, length, get_or}
 use Rattle.std.proofs.Math.Path.{refl, ap, subst}
@@ -29,15 +30,14 @@ use Rattle.types.specs.declared.Run.{Run}
 use Rattle.laws.specs.Checks.{first_hit, first_skip}
 use Rattle.laws.specs.Lists.{words_back}
 use Rattle.history.specs.Judged.{refused_so}
-use Rattle.history.specs.Items.{Call, try_lock_lem, acquire_locks, unchanged, perform, Clear}
+use Rattle.history.specs.Items.{Call, try_lock, acquire_locks, unchanged, perform, Clear}
 use Rattle.history.specs.Statements.{answers}
 use Rattle.laws.specs.Keys.{place_inside}
 use Rattle.upstream.specs.Vocabulary.{Key, Authority, Pair, Guard, lease_key, contains_key, key_at, guards_place, guards_match, all_guards_in, physical_members, guard_members}
 use Rattle.upstream.proofs.Bridge.{by_checks}
 use Rattle.upstream.specs.Keys.{GrantedAt, retry_key}
 use Rattle.upstream.proofs.TryLock.{granted_key}
-
--- ---- a cell number tells header and bucket
+use Rattle.upstream.specs.Guards.{slot_of, Matches}
 
 lower : (b x y p q : ℕ) → x < y → p < b → cell_number b x p < cell_number b y q
 lower b x y p q l i = omega (arith, mul-le-mul_right b l, suc-mul x b)
@@ -50,12 +50,6 @@ pair_of b x p y q i j e = go (dec_lt x y) (dec_lt y x)
     go (yes l) k = absurd (omega (arith, lower b x y p q l i))
     go (no l) (yes k) = absurd (omega (arith, lower b y x q p k j))
     go (no l) (no k) = let z : x ≡ y = omega arith in (z, omega (arith, ap (λ (n : ℕ). n * b) z))
-
--- ---- `try_lock`
-
--- the slot that a cell number stands for: header and bucket
-abbrev pub slot_of : ℕ → Key → Pair
-slot_of buckets c = (c / buckets, c % buckets)
 
 -- it is a slot of the arena, and the only pair with that cell number
 pub slot_is : (headers buckets : ℕ) (c : Key) → c < headers * buckets → (cell_number buckets (c / buckets) (c % buckets) ≡ c) × (c % buckets < buckets)
@@ -73,22 +67,15 @@ slot_only headers buckets c header bucket i b e =
 
 module _ (w : Authority) (script : List ℕ) (place : ℕ) (held : List ℕ) where
   -- r.unwrap().physical == slot, where the slot is that of the cell that is asked for
-  pub guards_try_lock_e1 : (c : Key) (l : Lease) → answers w (try_lock_lem script place held c) ≡ Granted l → guards_place w.head.buckets (hold_in l) (slot_of w.head.buckets c)
+  pub guards_try_lock_e1 : (c : Key) (l : Lease) → answers w (try_lock script place held c) ≡ Granted l → guards_place w.head.buckets (hold_in l) (slot_of w.head.buckets c)
   guards_try_lock_e1 c l e =
       let k = granted_key w script place held c l e in
       let s = slot_is w.head.headers w.head.buckets c k.1 in
       (k.0 ∙ sym s.0, s.1)
 
   -- r.unwrap().arena == self.arena(): its cell is in the arena
-  pub guards_try_lock_e2 : (c : Key) (l : Lease) → answers w (try_lock_lem script place held c) ≡ Granted l → contains_key w (lease_key (hold_in l))
+  pub guards_try_lock_e2 : (c : Key) (l : Lease) → answers w (try_lock script place held c) ≡ Granted l → contains_key w (lease_key (hold_in l))
   guards_try_lock_e2 c l e = let k = granted_key w script place held c l e in rw k.0 k.1
-
--- ---- `acquire_index_locks`
-
--- the leases that a multi-lock hands over, in key order
-pub record Matches (headers buckets : ℕ) (registry keys : List ℕ) (n : ℕ) (ls : List Hold) : Type 0 where
-  pub as_many : length ls ≡ n
-  pub each : (i : ℕ) → i < n → GrantedAt headers buckets registry (binding_at keys i) (bucket_at keys i) (hold_at ls i)
 
 module _ (e : Setting) (buckets boot : ℕ) (registry keys grants : List ℕ) where
   abbrev Good : ℕ → Locks → Type 0

@@ -37,12 +37,12 @@ use Rattle.laws.specs.Outcomes as locked
 use Rattle.laws.specs.Outcomes.{Comes, lock_comes}
 use Rattle.history.specs.Items.{Call, transactional, acquire_bucket, rules}
 use Rattle.history.specs.Statements.{answers, leaves}
-use Rattle.history.proofs.Steps.{With}
+use Rattle.history.specs.Steps.{With}
 use Rattle.history.specs.Tests.{Stands, is_free_lem, is_held_lem, is_damaged, stands, state_free, if_cases, differ}
 use Rattle.upstream.specs.Vocabulary.{Authority, lease_key, next_serial, contains_key, key_of, bucket_request_valid, guards_place}
 use Rattle.upstream.proofs.Bridge.{by_checks}
 use Rattle.upstream.proofs.TryAcquire.{fine_fault}
-use Rattle.upstream.specs.Keys.{Finds, bad_header_lem, poisoned, bad_bucket, at, finds}
+use Rattle.upstream.specs.Keys.{Finds, bad_header, poisoned, bad_bucket, at, finds}
 use Rattle.upstream.proofs.Buckets.{guards_transactional_e1, guards_transactional_e2}
 use Rattle.upstream.specs.Resolve.{apart}
 
@@ -161,7 +161,7 @@ module _ (e : Setting) (buckets : ℕ) (registry : List ℕ) (binding bucket : �
     where
       go : {x : Found} → Finds e.headers buckets g registry binding bucket x
           → (attempt_at x e buckets r t g).seen.0.outcome ≡ outcome.Refused (Poisoned h) → (h ≡ head_of_lem) × Sick r t g
-      go (bad_header_lem p) q = apart cc
+      go (bad_header p) q = apart cc
       go (poisoned p s) q = (let z : head_of_lem ≡ h = cc in sym z, (p, inl s))
       go (bad_bucket p s k) q = apart cc
       go (at p s k) q =
@@ -175,7 +175,7 @@ module _ (e : Setting) (buckets : ℕ) (registry : List ℕ) (binding bucket : �
       go : {x : Found} → Finds e.headers buckets g registry binding bucket x → head_of_lem < e.headers
           → (get_or g head_of_lem 0 ≡ 0 → ⊥) ⊎ ((bucket < buckets) × SickAgain e buckets r.flow t g (cell_number buckets head_of_lem bucket))
           → (attempt_at x e buckets r t g).seen.0.outcome ≡ outcome.Refused (Poisoned head_of_lem)
-      go (bad_header_lem p) l y = absurd (omega arith)
+      go (bad_header p) l y = absurd (omega arith)
       go (poisoned p q) l y = refl
       go (bad_bucket p q s) l (inl n) = absurd (n q)
       go (bad_bucket p q s) l (inr y) = absurd (omega (arith, y.0))
@@ -191,7 +191,7 @@ module _ (e : Setting) (buckets : ℕ) (registry : List ℕ) (binding bucket : �
     where
       go : {x : Found} → Finds e.headers buckets g registry binding bucket x
           → (attempt_at x e buckets r t g).seen.0.outcome ≡ outcome.Refused (Poisoned h) → get_or (attempt_at x e buckets r t g).seen.1.1 h 0 ≡ 0 → ⊥
-      go (bad_header_lem p) q = apart cc
+      go (bad_header p) q = apart cc
       go (poisoned p s) q = let z : head_of_lem ≡ h = cc in subst (λ (i : ℕ). get_or g i 0 ≡ 0 → ⊥) z s
       go (bad_bucket p s k) q = apart cc
       go (at p s k) q =
@@ -322,25 +322,25 @@ module _ (w : Authority) (registry script : List ℕ) (place : ℕ) (held : List
   -- ---- 6 and 8, of the call
 
   six : {x : Found} → Find x → (h : ℕ) → attempt x ≡ outcome.Refused (BadHeader h) → (h ≡ header) × (w.head.headers ≤ header)
-  six (bad_header_lem p) h e = (let z : header ≡ h = cc in sym z, p)
+  six (bad_header p) h e = (let z : header ≡ h = cc in sym z, p)
   six (poisoned p q) h e = apart cc
   six (bad_bucket p q s) h e = apart cc
   six (at p q s) h e = absurd (comes_6 h (lock_comes acting w.head.buckets (key_of w header bucket) (flow_of (next_serial w) place 0) w.table w.health) e)
 
   is_six : {x : Found} → Find x → w.head.headers ≤ header → attempt x ≡ outcome.Refused (BadHeader header)
-  is_six (bad_header_lem p) l = refl
+  is_six (bad_header p) l = refl
   is_six (poisoned p q) l = absurd (omega arith)
   is_six (bad_bucket p q s) l = absurd (omega arith)
   is_six (at p q s) l = absurd (omega arith)
 
   eight : {x : Found} → Find x → (b : ℕ) → attempt x ≡ outcome.Refused (InvalidBucket b) → (b ≡ bucket) × (header < w.head.headers) × (byte ≡ 0) × (w.head.buckets ≤ bucket)
-  eight (bad_header_lem p) b e = apart cc
+  eight (bad_header p) b e = apart cc
   eight (poisoned p q) b e = apart cc
   eight (bad_bucket p q s) b e = (let z : bucket ≡ b = cc in sym z, p, q, s)
   eight (at p q s) b e = absurd (comes_8 b (lock_comes acting w.head.buckets (key_of w header bucket) (flow_of (next_serial w) place 0) w.table w.health) e)
 
   is_eight : {x : Found} → Find x → header < w.head.headers → byte ≡ 0 → w.head.buckets ≤ bucket → attempt x ≡ outcome.Refused (InvalidBucket bucket)
-  is_eight (bad_header_lem p) l g b = absurd (omega arith)
+  is_eight (bad_header p) l g b = absurd (omega arith)
   is_eight (poisoned p q) l g b = absurd (q g)
   is_eight (bad_bucket p q s) l g b = refl
   is_eight (at p q s) l g b = absurd (omega arith)

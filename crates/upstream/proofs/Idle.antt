@@ -10,14 +10,13 @@ use Rattle.types.specs.declared.Answer.TheVariants.{Granted, AllGranted, Busy}
 use Rattle.types.specs.declared.Lease.{Lease}
 use Rattle.types.specs.declared.Reason.TheVariants as reason
 use Rattle.history.specs.Items.{Build, says}
-use Rattle.upstream.proofs.Protocol.{ended, trace_legal, trace_buries}
-use Rattle.upstream.proofs.ContractBorrows.{ContractInterfere, ContractEnvironment, ContractEnvironmentForBorrows}
-use Rattle.upstream.proofs.ContractLock.{ContractTryLock, ContractOtherMutexPreservesLeases, ContractGuardsTryLock}
+use Rattle.upstream.specs.Protocol.{ended}
+use Rattle.upstream.proofs.Protocol.{trace_legal, trace_buries}
+use Rattle.upstream.specs.ContractBorrows.{ContractInterfere, ContractEnvironment, ContractEnvironmentForBorrows}
+use Rattle.upstream.specs.ContractLock.{ContractTryLock, ContractOtherMutexPreservesLeases, ContractGuardsTryLock}
 use Rattle.upstream.proofs.ContractBucket.{ContractTransactionalTryLockBucket, ContractAcquireIndexBucket, ContractPublicationHeader, ContractGuardsTransactional, ContractGuardsAcquireBucket}
 use Rattle.upstream.specs.ContractMultilock.{ContractAcquireIndexLocks}
-
-abbrev pub idle : Build
-idle w k = gives (w, says (Busy reason.Before) (counts_of 0 0 0 0) 0 [])
+use Rattle.upstream.specs.Idle.{idle}
 
 nothing : {A : Type 0} {l : Lease} → ◌≡◌ {A = Answer} (Busy reason.Before) (Granted l) → A
 nothing e = absurd (omega (arith, ap kind_of e))

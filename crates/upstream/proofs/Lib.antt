@@ -1,9 +1,7 @@
 pub mod Borrows
 pub mod Bridge
 pub mod Buckets
-pub mod ContractBorrows
 pub mod ContractBucket
-pub mod ContractLock
 pub mod Damage
 pub mod DropLease
 pub mod Environment

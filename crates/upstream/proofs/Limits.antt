@@ -7,7 +7,7 @@ use Rattle.model.specs.Foreign.{steps_in}
 use Rattle.types.specs.declared.Check.TheVariants.{Fault}
 use Rattle.types.specs.declared.Refusal.TheVariants.{BadScript, BadHeld, TooMany}
 use Rattle.history.specs.Judged.{refused_so}
-use Rattle.history.specs.Items.{environment, try_lock_lem, transactional, acquire_bucket, release_all_lem, acquire_locks, unchanged, perform, Clear}
+use Rattle.history.specs.Items.{environment, try_lock, transactional, acquire_bucket, release_all, acquire_locks, unchanged, perform, Clear}
 use Rattle.upstream.specs.Vocabulary.{Authority, Key}
 use Rattle.upstream.specs.Premises.{Scripted, Keyed, WholeArena, WholeKeyed}
 use Rattle.upstream.proofs.Bridge.{first_after}
@@ -40,19 +40,19 @@ module _ (w : Authority) (script : List ℕ) (place : ℕ) (held : List ℕ) whe
   unfolding script_rules
   environment_script c l = refused_so w (environment script place held) BadScript (script_over _ c l)
 
-  pub try_lock_limit : (key : Key) → Scripted w script place → 64 < lease_count held → perform w (try_lock_lem script place held key) ≡ unchanged w (try_lock_lem script place held key) (BadHeld (lease_count held))
+  pub try_lock_limit : (key : Key) → Scripted w script place → 64 < lease_count held → perform w (try_lock script place held key) ≡ unchanged w (try_lock script place held key) (BadHeld (lease_count held))
   unfolding lock_rules script_rules
-  try_lock_limit key c l = refused_so w (try_lock_lem script place held key) (BadHeld (lease_count held)) (held_over _ c l)
+  try_lock_limit key c l = refused_so w (try_lock script place held key) (BadHeld (lease_count held)) (held_over _ c l)
 
-  pub try_lock_script : (key : Key) → WholeArena w → 32768 < steps_in script → perform w (try_lock_lem script place held key) ≡ unchanged w (try_lock_lem script place held key) BadScript
+  pub try_lock_script : (key : Key) → WholeArena w → 32768 < steps_in script → perform w (try_lock script place held key) ≡ unchanged w (try_lock script place held key) BadScript
   unfolding lock_rules script_rules
-  try_lock_script key c l = refused_so w (try_lock_lem script place held key) BadScript (script_over _ c l)
+  try_lock_script key c l = refused_so w (try_lock script place held key) BadScript (script_over _ c l)
 
 -- the leases of `release_all` are in its own file
 pub release_all_script : (w : Authority) (script : List ℕ) (place : ℕ) (leases : List ℕ) → WholeArena w → 32768 < steps_in script
-    → perform w (release_all_lem script place leases) ≡ unchanged w (release_all_lem script place leases) BadScript
+    → perform w (release_all script place leases) ≡ unchanged w (release_all script place leases) BadScript
 unfolding release_rules
-release_all_script w script place leases c l = refused_so w (release_all_lem script place leases) BadScript (script_over w script place [] _ c l)
+release_all_script w script place leases c l = refused_so w (release_all script place leases) BadScript (script_over w script place [] _ c l)
 
 module _ (w : Authority) (registry script : List ℕ) (place : ℕ) (held : List ℕ) where
   keyed_held_over : (ys : List Rule) → Keyed w registry script place → 64 < lease_count held

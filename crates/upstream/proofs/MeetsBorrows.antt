@@ -8,7 +8,7 @@ use Rattle.upstream.proofs.Borrows.{acquire_preserving_borrows_e1, acquire_prese
 use Rattle.upstream.proofs.Environment.{environment_e1, environment_e2, environment_e3, environment_e4, environment_for_borrows_e2, environment_r2, interfere_e1}
 use Rattle.upstream.proofs.Damage.{environment_r1, drops_damaged, sets_waiters}
 use Rattle.upstream.proofs.Limits.{environment_limit, environment_script}
-use Rattle.upstream.proofs.ContractBorrows.{ContractInterfere, PromiseInterfere, ContractEnvironment, PromiseEnvironment, ContractEnvironmentForBorrows, PromiseEnvironmentForBorrows, ContractAcquirePreservingBorrows, PromiseAcquirePreservingBorrows, ContractDropPreservingBorrows, PromiseDropPreservingBorrows, ContractForeignReleaseBetweenAttempts, PromiseForeignReleaseBetweenAttempts}
+use Rattle.upstream.specs.ContractBorrows.{ContractInterfere, PromiseInterfere, ContractEnvironment, PromiseEnvironment, ContractEnvironmentForBorrows, PromiseEnvironmentForBorrows, ContractAcquirePreservingBorrows, PromiseAcquirePreservingBorrows, ContractDropPreservingBorrows, PromiseDropPreservingBorrows, ContractForeignReleaseBetweenAttempts, PromiseForeignReleaseBetweenAttempts}
 
 -- ---- 000.interfere
 

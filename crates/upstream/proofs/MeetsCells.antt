@@ -2,7 +2,7 @@
 -- (`implied-..`); so ours does (`meets-..`).
 use Rattle.std.proofs.Common.{inl, inr, arith}
 use Rattle.model.specs.Arena.{hold_in}
-use Rattle.history.specs.Items.{try_acquire_lem, drop_lease, competing_acquire, release_then_handoff, perform, Build}
+use Rattle.history.specs.Items.{try_acquire, drop_lease, competing_acquire, release_then_handoff, perform, Build}
 use Rattle.history.specs.Statements.{world_in}
 use Rattle.upstream.specs.Vocabulary.{lease_key}
 use Rattle.upstream.proofs.Bridge.{valid_from, framed_valid}
@@ -88,7 +88,7 @@ promise_try_acquire w key =
 pub implied_try_acquire : (b : Build) → PromiseTryAcquire b → ContractTryAcquire b
 implied_try_acquire b p w key q =
     let h = p w key in
-    let m = b w (try_acquire_lem key) in
+    let m = b w (try_acquire key) in
     record {
       e1 = framed_valid w (world_in m) key h.e1 h.e2 q.r1;
       e2 = h.e2;

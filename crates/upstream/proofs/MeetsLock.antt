@@ -1,12 +1,12 @@
 -- Ours keeps each promise of `ContractLock` (`promise-..`); whoever keeps it meets upstream's contract
 -- (`implied-..`); so ours does (`meets-..`).
-use Rattle.history.specs.Items.{try_lock_lem, perform, Build}
+use Rattle.history.specs.Items.{try_lock, perform, Build}
 use Rattle.history.specs.Statements.{world_in}
 use Rattle.upstream.proofs.Bridge.{valid_from}
 use Rattle.upstream.proofs.TryLock.{try_lock_e1, try_lock_e2, try_lock_e3, try_lock_e4, try_lock_e5, try_lock_r1, try_lock_r2, try_lock_r3}
 use Rattle.upstream.proofs.Guards.{guards_try_lock_e1, guards_try_lock_e2}
 use Rattle.upstream.proofs.Limits.{try_lock_limit, try_lock_script}
-use Rattle.upstream.proofs.ContractLock.{ContractTryLock, PromiseTryLock, ContractOtherMutexPreservesLeases, PromiseOtherMutexPreservesLeases, ContractGuardsTryLock, PromiseGuardsTryLock}
+use Rattle.upstream.specs.ContractLock.{ContractTryLock, PromiseTryLock, ContractOtherMutexPreservesLeases, PromiseOtherMutexPreservesLeases, ContractGuardsTryLock, PromiseGuardsTryLock}
 
 -- ---- 000.try_lock
 
@@ -28,7 +28,7 @@ promise_try_lock w script place held key =
 pub implied_try_lock : (b : Build) → PromiseTryLock b → ContractTryLock b
 implied_try_lock b p w script place held key q =
     let h = p w script place held key in
-    let m = b w (try_lock_lem script place held key) in
+    let m = b w (try_lock script place held key) in
     record {
       e1 = valid_from w (world_in m) h.e1 h.e3 q.r1;
       e2 = h.e2 q.r3;
@@ -60,7 +60,7 @@ promise_other_mutex_preserves_leases w script place held key =
 pub implied_other_mutex_preserves_leases : (b : Build) → PromiseOtherMutexPreservesLeases b → ContractOtherMutexPreservesLeases b
 implied_other_mutex_preserves_leases b p w script place held key q =
     let h = p w script place held key in
-    let m = b w (try_lock_lem script place held key) in
+    let m = b w (try_lock script place held key) in
     record {
       e1 = valid_from w (world_in m) h.e1 h.keys q.r1;
       e2 = h.e2 q.r2;

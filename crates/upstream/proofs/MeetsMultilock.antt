@@ -1,7 +1,7 @@
 -- Ours keeps each promise of `ContractMultilock` (`promise-..`); whoever keeps it meets upstream's contract
 -- (`implied-..`); so ours does (`meets-..`).
 use Rattle.model.specs.Arena.{holds_of}
-use Rattle.history.specs.Items.{release_all_lem, perform, Build}
+use Rattle.history.specs.Items.{release_all, perform, Build}
 use Rattle.history.specs.Statements.{world_in}
 use Rattle.upstream.proofs.Bridge.{valid_leases, valid_from}
 use Rattle.upstream.proofs.ReleaseAll.{release_all_e1, release_all_e2, release_all_e3, release_all_r1, release_all_r2, release_all_r3, release_too_many}
@@ -27,7 +27,7 @@ promise_release_all w script place leases =
 pub implied_release_all : (b : Build) → PromiseReleaseAll b → ContractReleaseAll b
 implied_release_all b p w script place leases q =
     let h = p w script place leases in
-    let m = b w (release_all_lem script place leases) in
+    let m = b w (release_all script place leases) in
     record {
       e1 = valid_from w (world_in m) h.e1 h.e2 q.r1;
       e2 = h.e2;

@@ -1,4 +1,5 @@
 -- 000: `read_permission`, `competing_acquire_is_excluded` and `release_then_handoff`: the calls on one lease.
+-- ---- release and take again: what it comes to; F says that no check of the call applies
 use Rattle.std.specs.Prelude.{ℕ, ◌≤◌, ◌<◌, ◌≡◌, [], ◌∷◌}
 use Rattle.std.proofs.Math.Path.{refl, ap}
 use Rattle.std.proofs.Common.{sym, ◌∙◌, subst, inl, arith}
@@ -28,14 +29,11 @@ use Rattle.upstream.proofs.Protocol.{step_valid_at, step_frees, step_grants, bit
 use Rattle.upstream.proofs.Bridge.{cell_live, fits_sized, sized_now, by_checks}
 use Rattle.upstream.proofs.Refusing.{unauthorized, on_damaged, lease_refused}
 use Rattle.upstream.proofs.Passing.{lease_passes}
-use Rattle.upstream.proofs.TryAcquire.{Tries, barred, acquired, tries_valid_at, tries_keys, tries_keeps, tries_some, tries_none, tries_held, tries_free, tries_spent, observed, fine_fault}
-use Rattle.upstream.proofs.DropLease.{Drops, drops, dropped, drops_keeps}
-
--- ---- release and take again: what it comes to; F says that no check of the call applies
-
-pub data Hands (F : Type 0) (w : Authority) (l : Hold) : Answer → Authority → Type 0 where
-  hands : (u : Authority) {a : Answer} {v : Authority} → u.head.boot ≡ w.head.boot → GivesUp w u l.cell l.serial → Tries F u l.cell a v → Hands F w l a v
-  unheld : (r : Refusal) → (F → ⊥) → Hands F w l (Refused r) w
+use Rattle.upstream.specs.TryAcquire.{Tries, barred}
+use Rattle.upstream.proofs.TryAcquire.{acquired, tries_valid_at, tries_keys, tries_keeps, tries_some, tries_none, tries_held, tries_free, tries_spent, observed, fine_fault}
+use Rattle.upstream.specs.DropLease.{Drops, drops}
+use Rattle.upstream.proofs.DropLease.{dropped, drops_keeps}
+use Rattle.upstream.specs.OneLease.{Hands, hands, unheld}
 
 free_now : (w u : Authority) (l : Hold) → GivesUp w u l.cell l.serial → ValidCell (next_serial u) (cells u l.cell) × ((cells u l.cell).bit ≡ 0)
 free_now w u l x =

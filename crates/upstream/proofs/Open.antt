@@ -1,6 +1,7 @@
 -- "What upstream leaves open" (document 01), as mathematics. For each sentence: upstream's contract of the function, restated on what was
 -- before, the result and what is after; a wrong build; that the contract accepts it (`accepted-..`); and that our promise, the equation
 -- with document 01's definition, rejects it (`rejected-..`). The arena of the work order's fears fits in one or two cells.
+-- ---- contracts
 use Rattle.std.specs.Prelude.{ℕ, ◌+◌, ◌≡◌, refl, List, [], ◌∷◌, false, eqb, length, replicate, if◌then◌else◌}
 use Rattle.std.proofs.Common.{sym, ap, ◌∙◌, subst, inl, inr, arith}
 use Rattle.choice.specs.Pick.{if_both}
@@ -20,129 +21,34 @@ use Rattle.types.specs.declared.Lease.{Lease}
 use Rattle.laws.specs.Lists.{zero_bit, zero_owner}
 use Rattle.history.specs.World as world
 use Rattle.history.specs.World.{World, world_of}
-use Rattle.history.specs.Items.{try_acquire_lem, drop_lease, read_permission, competing_acquire, release_then_handoff, foreign_release, drop_preserving, acquire_preserving, environment, try_lock_lem, transactional, acquire_bucket, release_all_lem, acquire_locks, acquire_sorted, crew, crew_at_work_lem, perform, Build, Says, says}
+use Rattle.history.specs.Items.{try_acquire, drop_lease, read_permission, competing_acquire, release_then_handoff, foreign_release, drop_preserving, acquire_preserving, environment, try_lock, transactional, acquire_bucket, release_all, acquire_locks, acquire_sorted, crew, crew_at_work, perform, Build, Says, says}
 use Rattle.history.specs.Statements.{answers, leaves}
 use Rattle.history.specs.Tests.{In, if_cases, differ, holds_equal}
 use Rattle.history.specs.Events.{lives}
 use Rattle.upstream.specs.Vocabulary.{Key, cell, Authority, next_serial, contains_key, cells, insert, CellsAre, ValidCell, valid, authorized, Release, GivesUp, protected_valid, held_ids, leases_authorized}
 use Rattle.upstream.specs.Premises.{Own}
-use Rattle.upstream.proofs.Protocol.{Put, here, there, put, bit_of, owner_of, step_valid, step_keeps, step_frees}
-use Rattle.upstream.proofs.Bridge.{authorized_live, fits_sized, by_name, by_place, Sized, put_cells, sized_now, event_step}
+use Rattle.upstream.specs.Protocol.{Put, here, there}
+use Rattle.upstream.proofs.Protocol.{put, bit_of, owner_of, step_valid, step_keeps, step_frees}
+use Rattle.upstream.specs.Bridge.{Sized}
+use Rattle.upstream.proofs.Bridge.{authorized_live, fits_sized, by_name, by_place, put_cells, sized_now, event_step}
 use Rattle.upstream.proofs.TryAcquire.{tried, tries_keeps, tries_keys, try_acquire_valid}
 use Rattle.upstream.proofs.TryLock.{try_lock_valid, try_lock_e2, try_lock_e3, try_lock_e4, try_lock_e5}
-use Rattle.upstream.proofs.ContractBorrows.{EnsuresAcquirePreservingBorrows, ContractAcquirePreservingBorrows, EnsuresDropPreservingBorrows, ContractDropPreservingBorrows}
-use Rattle.upstream.proofs.ContractLock.{EnsuresTryLock, ContractTryLock}
+use Rattle.upstream.specs.ContractBorrows.{EnsuresAcquirePreservingBorrows, ContractAcquirePreservingBorrows, EnsuresDropPreservingBorrows, ContractDropPreservingBorrows}
+use Rattle.upstream.specs.ContractLock.{EnsuresTryLock, ContractTryLock}
 use Rattle.upstream.specs.ContractMultilock.{ContractReleaseAll}
-use Rattle.upstream.proofs.AllMet.{two_held}
-
--- ---- contracts
-
--- Upstream's contracts are those that ours meets (`ContractLock` and the like). A wrong build here is of a single call; as a build of all calls
--- (crate `history`, `Items.Build`) it is ours but for that call.
-pub record Bodies : Type 0 where
-  pub on_lock : Authority → (script : List ℕ) (place : ℕ) (held : List ℕ) → Key → Made (World × Says)
-  pub on_acquire : Authority → (held : List ℕ) → Key → Made (World × Says)
-  pub on_drop : Authority → (held : List ℕ) → Lease → Made (World × Says)
-  pub on_release : Authority → (script : List ℕ) (place : ℕ) (leases : List ℕ) → Made (World × Says)
-  pub on_bucket : Authority → (registry script : List ℕ) (place : ℕ) (held : List ℕ) (binding bucket : ℕ) → Made (World × Says)
-
-abbrev pub built : Bodies → Build
-built f w (try_acquire_lem c) = perform w (try_acquire_lem c)
-built f w (drop_lease l) = perform w (drop_lease l)
-built f w (read_permission l) = perform w (read_permission l)
-built f w (competing_acquire l) = perform w (competing_acquire l)
-built f w (release_then_handoff l) = perform w (release_then_handoff l)
-built f w (foreign_release held l) = perform w (foreign_release held l)
-built f w (drop_preserving held l) = f.on_drop w held l
-built f w (acquire_preserving held c) = f.on_acquire w held c
-built f w (environment script place held) = perform w (environment script place held)
-built f w (try_lock_lem script place held c) = f.on_lock w script place held c
-built f w (transactional registry script place held binding bucket) = perform w (transactional registry script place held binding bucket)
-built f w (acquire_bucket registry script place held binding bucket) = f.on_bucket w registry script place held binding bucket
-built f w (release_all_lem script place leases) = f.on_release w script place leases
-built f w (acquire_locks registry script place held keys grants) = perform w (acquire_locks registry script place held keys grants)
-built f w (acquire_sorted registry script place held keys grants) = perform w (acquire_sorted registry script place held keys grants)
-built f w (crew counts lists turns) = perform w (crew counts lists turns)
-built f w (crew_at_work_lem counts lists turns counters) = perform w (crew_at_work_lem counts lists turns counters)
-
--- ours, but for one
-abbrev bodies : (on_lock : Authority → List ℕ → ℕ → List ℕ → Key → Made (World × Says)) (on_acquire : Authority → List ℕ → Key → Made (World × Says)) (on_drop : Authority → List ℕ → Lease → Made (World × Says))
-    (on_release : Authority → List ℕ → ℕ → List ℕ → Made (World × Says)) (on_bucket : Authority → List ℕ → List ℕ → ℕ → List ℕ → ℕ → ℕ → Made (World × Says)) → Bodies
-bodies a b c d e = record { on_lock = a; on_acquire = b; on_drop = c; on_release = d; on_bucket = e }
-
-abbrev our_lock : Authority → List ℕ → ℕ → List ℕ → Key → Made (World × Says)
-our_lock w script place held c = perform w (try_lock_lem script place held c)
-
-abbrev our_acquire : Authority → List ℕ → Key → Made (World × Says)
-our_acquire w held c = perform w (acquire_preserving held c)
-
-abbrev our_drop : Authority → List ℕ → Lease → Made (World × Says)
-our_drop w held l = perform w (drop_preserving held l)
-
-abbrev our_release : Authority → List ℕ → ℕ → List ℕ → Made (World × Says)
-our_release w script place leases = perform w (release_all_lem script place leases)
-
-abbrev our_bucket : Authority → List ℕ → List ℕ → ℕ → List ℕ → ℕ → ℕ → Made (World × Says)
-our_bucket w registry script place held binding bucket = perform w (acquire_bucket registry script place held binding bucket)
-
--- an answer and the arena that is left
-abbrev told : ℕ → Answer × Authority → Made (World × Says)
-told place x = gives (x.1, says x.0 (counts_of 0 0 0 0) place [])
-
--- a build of `try_lock`: arena, script, place, held list and cell to answer and arena
-abbrev pub LockBuild : Type 0
-LockBuild = Authority → List ℕ → ℕ → List ℕ → Key → Answer × Authority
-
-abbrev pub with_lock : LockBuild → Build
-with_lock f = built (bodies (λ w script place held c. told place (f w script place held c)) our_acquire our_drop our_release our_bucket)
-
-abbrev pub with_acquire : (Authority → List ℕ → Key → Answer × Authority) → Build
-with_acquire f = built (bodies our_lock (λ w held c. told 0 (f w held c)) our_drop our_release our_bucket)
-
-abbrev pub with_drop : (Authority → List ℕ → Hold → Answer × Authority) → Build
-with_drop f = built (bodies our_lock our_acquire (λ w held l. told 0 (f w held (hold_in l))) our_release our_bucket)
-
-abbrev pub with_release : (Authority → List ℕ → Answer × Authority) → Build
-with_release f = built (bodies our_lock our_acquire our_drop (λ w script place leases. told place (f w leases)) our_bucket)
-
--- a build of `acquire_index_bucket`: what it leaves, and what it says, with its counts
-abbrev pub BucketBuild : Type 0
-BucketBuild = Authority → (registry script : List ℕ) (place : ℕ) (held : List ℕ) (binding bucket : ℕ) → Authority × Says
-
-abbrev pub with_bucket : BucketBuild → Build
-with_bucket f = built (bodies our_lock our_acquire our_drop our_release (λ w registry script place held binding bucket. gives (f w registry script place held binding bucket)))
-
-abbrev pub UpstreamAcceptsLock : LockBuild → Type 0
-UpstreamAcceptsLock f = ContractTryLock (with_lock f)
-
--- our promise, as far as answer and arena go
-abbrev pub WeAcceptLock : LockBuild → Type 0
-WeAcceptLock f =
-    (w : Authority) (script : List ℕ) (place : ℕ) (held : List ℕ) (c : Key)
-    → f w script place held c ≡ (answers w (try_lock_lem script place held c), leaves w (try_lock_lem script place held c))
-
--- an arena of one cell, free; and one whose cell a foreign holder owns
-abbrev pub one_free : Authority
-one_free = world_of (head_of 1 1 1 5) (0 ∷ 0 ∷ 0 ∷ []) (0 ∷ [])
-
-abbrev pub one_held : Authority
-one_held = world_of (head_of 1 1 2 5) (1 ∷ 1 ∷ 0 ∷ []) (0 ∷ [])
+use Rattle.upstream.specs.AllMet.{two_held}
+use Rattle.upstream.specs.Open.{told, with_acquire, with_drop, with_release, UpstreamAcceptsLock, WeAcceptLock, one_free, one_held, never_locks, takes_and_keeps, keeps_when_none, one_waited, overwritten, steals, freed, gone, frees_too, frees_all}
 
 -- what ours answers there
-granted_there : answers one_free (try_lock_lem [] 0 [] 0) ≡ Granted (lease_of 0 1 5)
+granted_there : answers one_free (try_lock [] 0 [] 0) ≡ Granted (lease_of 0 1 5)
 unfolding perform try_lock_of lock_rules script_rules not_live first shape_fits head_fits health_fits leases_of holds_of boundary_of run_steps_of lock_of second_stage_of take_of late_stage_of
     waiters_at bit_at owner_at set_cell state_at state_of is_free is_held
 granted_there = refl
 
-pub busy_there : answers one_held (try_lock_lem [] 0 [] 0) ≡ Busy (reason.Held 1)
+pub busy_there : answers one_held (try_lock [] 0 [] 0) ≡ Busy (reason.Held 1)
 unfolding perform try_lock_of lock_rules script_rules not_live first shape_fits head_fits health_fits leases_of holds_of boundary_of run_steps_of lock_of second_stage_of take_of late_stage_of
     waiters_at bit_at owner_at set_cell state_at state_of is_free is_held
 busy_there = refl
-
--- ---- "`try_lock` may always be None"
-
-abbrev pub never_locks : LockBuild
-never_locks w script place held c = (Busy reason.Before, w)
 
 pub accepted_never_locks : UpstreamAcceptsLock never_locks
 accepted_never_locks w script place held c a =
@@ -150,11 +56,6 @@ accepted_never_locks w script place held c a =
 
 pub rejected_never_locks : WeAcceptLock never_locks → ⊥
 rejected_never_locks p = omega (arith, ap (λ (x : Answer × Authority). kind_of x.0) (p one_free [] 0 [] 0), ap kind_of granted_there)
-
--- ---- "may keep the cell when None": one compare-and-set, and the answer None whatever comes of it
-
-abbrev pub takes_and_keeps : LockBuild
-takes_and_keeps w script place held c = (Busy reason.Before, leaves w (try_acquire_lem c))
 
 pub accepted_takes_and_keeps : UpstreamAcceptsLock takes_and_keeps
 accepted_takes_and_keeps w script place held c a =
@@ -174,15 +75,9 @@ keeps_indeed = refl
 pub rejected_takes_and_keeps : WeAcceptLock takes_and_keeps → ⊥
 rejected_takes_and_keeps p = omega (arith, ap (λ (x : Answer × Authority). kind_of x.0) (p one_free [] 0 [] 0), ap kind_of granted_there)
 
--- the same slip with our answers: where ours is Busy, one compare-and-set more, and what it takes is kept
-abbrev pub keeps_when_none : LockBuild
-keeps_when_none w script place held c =
-    let k = try_lock_lem script place held c in
-    (answers w k, if eqb (kind_of (answers w k)) 4 then leaves (leaves w k) (try_acquire_lem c) else leaves w k)
-
 pub accepted_keeps_when_none : UpstreamAcceptsLock keeps_when_none
 accepted_keeps_when_none w script place held c a =
-    let k = try_lock_lem script place held c in
+    let k = try_lock script place held c in
     let t = tried (leaves w k) c in
     let ours = try_lock_valid w script place held c a.r1 in
     let kept = try_lock_e2 w script place held c a.r3 in
@@ -197,25 +92,10 @@ accepted_keeps_when_none w script place held c a =
     })
     (record { e1 = ours; e2 = kept; e3 = keys; e4 = try_lock_e4 w script place held c; e5 = try_lock_e5 w script place held c })
 
--- a free cell with a waiter: ours leaves it free
-abbrev pub one_waited : Authority
-one_waited = world_of (head_of 1 1 1 5) (0 ∷ 0 ∷ 1 ∷ []) (0 ∷ [])
-
 pub rejected_keeps_when_none : WeAcceptLock keeps_when_none → ⊥
 unfolding perform try_lock_of lock_rules script_rules not_live first shape_fits head_fits health_fits leases_of holds_of boundary_of run_steps_of lock_of waiters_at try_acquire_of cell_rules acquire_of take_of bit_at owner_at set_cell
     state_at state_of is_free is_held
 rejected_keeps_when_none p = omega (arith, ap (λ (x : Answer × Authority). bit_at x.1.table 0) (p one_waited [] 0 [] 0))
-
--- ---- "like `acquire_preserving_borrows`, may take a cell a foreign holder owns": unless the caller's held list has the cell's owner
-
--- the cell gets the next serial, whoever holds it
-abbrev overwritten : Authority → Key → Authority
-overwritten w c = world_of (spent_to w.head (next_serial w + 1)) (set_cell w.table c 1 (next_serial w)) w.health
-
-abbrev pub steals : LockBuild
-steals w script place held c =
-    if is_in (hold_of c (owner_at w.table c)) (holds_of held) then (Busy (reason.Held (owner_at w.table c)), w)
-    else (Granted (lease_of c (next_serial w) w.head.boot), overwritten w c)
 
 module _ (w : Authority) (c : Key) (z : Sized w) (v : valid w) (i : contains_key w c) where
   written : CellsAre w (overwritten w c) (insert (cells w) c (cell 1 (next_serial w)))
@@ -311,18 +191,6 @@ pub rejected_steals_acquire : ((w : Authority) (held : List ℕ) (c : Key)
 unfolding perform acquire_preserving_of held_cell_rules not_live first shape_fits head_fits leases_of holds_of is_in acquire_of take_of bit_at owner_at state_at state_of is_free is_held
 rejected_steals_acquire p = omega (arith, ap (λ (x : Answer × Authority). kind_of x.0) (p one_held [] 0))
 
--- ---- "`drop_preserving_borrows` and `release_all` may free other cells"
-
--- the lease is released, and cell 0 is freed too, unless the caller holds it
-abbrev freed : Authority → Authority
-freed u = world_of u.head (set_cell u.table 0 0 0) u.health
-
-abbrev gone : Authority → Hold → Authority
-gone w l = world.after_event w (released by_caller l.cell l.serial)
-
-abbrev pub frees_too : Authority → List ℕ → Hold → Answer × Authority
-frees_too w held l = (Done, if is_in (hold_of 0 (owner_at (gone w l).table 0)) (holds_of held) then gone w l else freed (gone w l))
-
 module _ (u : Authority) (z : Sized u) (v : valid u) (i : contains_key u 0) where
   wiped : CellsAre u (freed u) (insert (cells u) 0 (cell 0 0))
   wiped = put_cells u (next_serial u) 0 0 0 z i
@@ -398,10 +266,6 @@ pub rejected_frees_too : ((w : Authority) (held : List ℕ) (l : Lease) → Own 
 unfolding perform drop_preserving_of held_lease_rules not_live first shape_fits head_fits leases_of holds_of is_in is_live bit_at owner_at set_cell state_at state_of is_free is_held
 rejected_frees_too p = omega (arith, ap (λ (x : Answer × Authority). bit_at x.1.table 0) (p two_held [] (lease_of 1 2 5) refl))
 
--- `release_all`: all cells are freed
-abbrev pub frees_all : Authority → List ℕ → Answer × Authority
-frees_all w leases = (Done, world_of w.head (replicate (length w.table) 0) w.health)
-
 pub accepted_frees_all : ContractReleaseAll (with_release frees_all)
 accepted_frees_all w script place leases q =
     record {
@@ -413,6 +277,6 @@ accepted_frees_all w script place leases q =
       e3 = λ i l a. omega (arith, a.locked, zero_bit (length w.table) (hold_at (holds_of leases) i).cell);
     }
 
-pub rejected_frees_all : ((w : Authority) (leases : List ℕ) → frees_all w leases ≡ (answers w (release_all_lem [] 0 leases), leaves w (release_all_lem [] 0 leases))) → ⊥
+pub rejected_frees_all : ((w : Authority) (leases : List ℕ) → frees_all w leases ≡ (answers w (release_all [] 0 leases), leaves w (release_all [] 0 leases))) → ⊥
 unfolding perform release_all_of release_rules not_releasable first shape_fits head_fits health_fits leases_of holds_of is_in is_live give_back_of boundary_of run_steps_of bit_at owner_at set_cell state_at state_of is_free is_held
 rejected_frees_all p = omega (arith, ap (λ (x : Answer × Authority). bit_at x.1.table 0) (p two_held (1 ∷ 2 ∷ 5 ∷ [])))

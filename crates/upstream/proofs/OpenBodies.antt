@@ -1,6 +1,7 @@
 -- "What upstream leaves open" (document 01), the part that is in upstream's bodies and in no contract: waiters, errors
 -- and their numbers, the 4,096 attempts, yields. As in `Open`: a wrong build, that upstream's contract accepts it, and
 -- that ours rejects it.
+-- ---- waiters: a `try_lock` that reads none
 use Prim.Native.Nat.{ℕ, zero, suc}
 use Rattle.std.proofs.Math.Path.{◌≡◌}
 use Rattle.std.specs.Prelude.{refl, List, [], ◌∷◌, if◌then◌else◌}
@@ -24,10 +25,10 @@ use Rattle.types.specs.declared.Reason.{Reason}
 use Rattle.types.specs.declared.Refusal.TheVariants.{BadShape, SerializationFailure}
 use Rattle.types.specs.declared.Run.{Run}
 use Rattle.types.specs.declared.Tried.{Tried}
-use Rattle.history.specs.Items.{try_acquire_lem, acquire_bucket, Says, says, perform}
+use Rattle.history.specs.Items.{try_acquire, acquire_bucket, Says, says, perform}
 use Rattle.history.specs.Statements.{answers, leaves}
 use Rattle.history.specs.Tests.{In}
-use Rattle.history.proofs.Steps.{world_at, With, of_tried}
+use Rattle.history.specs.Steps.{world_at, With, of_tried}
 use Rattle.upstream.specs.Vocabulary.{Authority}
 use Rattle.upstream.proofs.Protocol.{trace_valid, trace_keeps, trace_buries}
 use Rattle.upstream.proofs.Bridge.{authorized_live, by_name, by_place, fits_sized}
@@ -36,12 +37,8 @@ use Rattle.upstream.specs.Keys.{GrantedAt, settled_granted, attempt_key}
 use Rattle.upstream.proofs.Scripts.{Ready, ready, then, stays, Attempts, attempt_goes, spin_goes}
 use Rattle.upstream.proofs.Buckets.{acquire_index_bucket_valid, acquire_index_bucket_e2, acquire_index_bucket_e3, acquire_index_bucket_e4, acquire_index_bucket_e5}
 use Rattle.upstream.proofs.ContractBucket.{ContractAcquireIndexBucket}
-use Rattle.upstream.proofs.Open.{LockBuild, BucketBuild, with_bucket, UpstreamAcceptsLock, WeAcceptLock, one_free, one_held, one_waited}
-
--- ---- waiters: a `try_lock` that reads none
-
-abbrev pub ignores_waiters : LockBuild
-ignores_waiters w script place held c = (answers w (try_acquire_lem c), leaves w (try_acquire_lem c))
+use Rattle.upstream.specs.Open.{LockBuild, BucketBuild, with_bucket, UpstreamAcceptsLock, WeAcceptLock, one_free, one_held, one_waited}
+use Rattle.upstream.specs.OpenBodies.{ignores_waiters, WeAcceptBucket, gives_up, renumbered, renumbers, fives}
 
 pub accepted_ignores_waiters : UpstreamAcceptsLock ignores_waiters
 accepted_ignores_waiters w script place held c a =
@@ -63,17 +60,6 @@ rejected_ignores_waiters p = omega (arith, ap (λ (x : Answer × Authority). kin
 abbrev pub UpstreamAcceptsBucket : BucketBuild → Type 0
 UpstreamAcceptsBucket f = ContractAcquireIndexBucket (with_bucket f)
 
--- our promise
-abbrev pub WeAcceptBucket : BucketBuild → Type 0
-WeAcceptBucket f =
-    (w : Authority) (registry script : List ℕ) (place : ℕ) (held : List ℕ) (binding bucket : ℕ)
-    → f w registry script place held binding bucket ≡ (perform w (acquire_bucket registry script place held binding bucket)).seen
-
--- ---- 4,096 attempts: one that gives up at once
-
-abbrev pub gives_up : BucketBuild
-gives_up w registry script place held binding bucket = (w, says (Refused (SerializationFailure none_yet)) (counts_of 0 0 0 0) place [])
-
 pub accepted_gives_up : UpstreamAcceptsBucket gives_up
 accepted_gives_up w registry script place held binding bucket a =
     record { e1 = a.r1; e2 = a.r3; e3 = refl; e4 = λ l e. absurd (omega (arith, ap kind_of e)); e5 = λ l e. absurd (omega (arith, ap kind_of e)) }
@@ -83,17 +69,6 @@ unfolding perform acquire_bucket_of bucket_rules not_live first shape_fits head_
     lock_of second_stage_of take_of late_stage_of waiters_at bit_at owner_at set_cell state_at state_of is_free is_held
 rejected_gives_up p = omega (arith, ap (λ (x : Authority × Says). kind_of x.1.answer) (p one_free (0 ∷ []) [] 0 [] 0 0))
 
--- ---- errors and their numbers: ours, but every refusal is number 1
-
-abbrev renumbered : Answer → Answer
-renumbered Done = Done
-renumbered (Cell c) = Cell c
-renumbered (Granted l) = Granted l
-renumbered AllGranted = AllGranted
-renumbered (Busy why) = Busy why
-renumbered (Refused r) = Refused BadShape
-renumbered (RefusedAt r p) = RefusedAt BadShape p
-
 renumbered_granted : (a : Answer) (l : Lease) → renumbered a ≡ Granted l → a ≡ Granted l
 renumbered_granted Done l e = e
 renumbered_granted (Cell c) l e = e
@@ -102,11 +77,6 @@ renumbered_granted AllGranted l e = e
 renumbered_granted (Busy why) l e = e
 renumbered_granted (Refused r) l e = absurd (omega (arith, ap kind_of e))
 renumbered_granted (RefusedAt r p) l e = absurd (omega (arith, ap kind_of e))
-
-abbrev pub renumbers : BucketBuild
-renumbers w registry script place held binding bucket =
-    let m = (perform w (acquire_bucket registry script place held binding bucket)).seen in
-    (m.0, says (renumbered m.1.answer) m.1.counts m.1.place m.1.grants)
 
 pub accepted_renumbers : UpstreamAcceptsBucket renumbers
 accepted_renumbers w registry script place held binding bucket a =
@@ -178,12 +148,6 @@ accepted_never_yields w registry script place held binding bucket a =
           let k = spinning_key w.head script (holds_of held) registry binding bucket attempt_limit none_yet s w.table w.health (hold_in l) (settled_granted _ _ l e) in
           (k.cell_is, k.bucket_inside);
     }
-
--- 64 Busy attempts of three boundaries each, and one more for the yield; then the script releases the cell. Ours has
--- yielded once
-abbrev fives : ℕ → List ℕ → List ℕ
-fives zero rest = rest
-fives (suc n) rest = 5 ∷ 0 ∷ 0 ∷ fives n rest
 
 pub rejected_never_yields : WeAcceptBucket never_yields → ⊥
 unfolding perform acquire_bucket_of bucket_rules not_live first shape_fits head_fits health_fits registry_fits leases_of holds_of retry_of spinning_of attempt_of find_of pause_of spin_of

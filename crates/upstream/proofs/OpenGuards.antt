@@ -21,38 +21,13 @@ use Rattle.choice.specs.Pick.{both}
 use Rattle.history.specs.Items.{acquire_locks, Says, says, perform}
 use Rattle.history.specs.Tests.{if_cases}
 use Rattle.upstream.specs.Vocabulary.{Key, Authority, Pair, key_at, physical, keys_valid}
-use Rattle.upstream.proofs.Guards.{slot_of}
-use Rattle.upstream.proofs.Open.{LockBuild, WeAcceptLock, one_free, one_held, busy_there}
-
--- pub struct Guard { pub arena: usize, pub physical: Pair }
-pub record PlainGuard : Type 0 where
-  pub arena : ℕ
-  pub physical_pair : Pair
-
-abbrev plain : ℕ → Pair → PlainGuard
-plain arena slot = record { arena = arena; physical_pair = slot }
-
--- ---- `Primitives::try_lock`: a guard is handed out and nothing is taken
-
--- r.is_some() ==> r.unwrap().physical == slot && r.unwrap().arena == self.arena()
-abbrev pub EnsuredGuard : ℕ → Pair → Option PlainGuard → Type 0
-EnsuredGuard arena slot r = (g : PlainGuard) → r ≡ some g → (g.physical_pair ≡ slot) × (g.arena ≡ arena)
-
-abbrev pub feigned : ℕ → Pair → Option PlainGuard
-feigned arena slot = some (plain arena slot)
+use Rattle.upstream.specs.Guards.{slot_of}
+use Rattle.upstream.specs.Open.{LockBuild, WeAcceptLock, one_free, one_held}
+use Rattle.upstream.proofs.Open.{busy_there}
+use Rattle.upstream.specs.OpenGuards.{PlainGuard, plain, EnsuredGuard, feigned, feigns, as_leases}
 
 pub accepted_feigns : (arena : ℕ) (slot : Pair) → EnsuredGuard arena slot (feigned arena slot)
 accepted_feigns arena slot g e = let k : plain arena slot ≡ g = cc in (ap (λ (x : PlainGuard). x.physical_pair) (sym k), ap (λ (x : PlainGuard). x.arena) (sym k))
-
--- the same here, with a lease for the guard
-abbrev as_hold : ℕ → PlainGuard → Hold
-as_hold buckets g = hold_of (cell_number buckets g.physical_pair.0 g.physical_pair.1) 1
-
-abbrev as_lease : (boot buckets : ℕ) → PlainGuard → Lease
-as_lease boot buckets g = lease_under boot (as_hold buckets g)
-
-abbrev pub feigns : LockBuild
-feigns w script place held c = (Granted (as_lease w.head.boot w.head.buckets (plain 0 (slot_of w.head.buckets c))), w)
 
 -- two callers get one guard
 pub nobody_excluded : (w : Authority) (c : Key) → feigns (feigns w [] 0 [] c).1 [] 0 [] c ≡ feigns w [] 0 [] c
@@ -132,11 +107,6 @@ module _ (arena count : ℕ) (registry keys : List ℕ) where
 
       here : (i : ℕ) → i < n → get_or (guards_from n 0) i (plain 0 (0, 0)) ≡ plain arena (physical registry (key_at keys i))
       here i l = each n 0 i l ∙ ap (λ (m : ℕ). plain arena (physical registry (key_at keys m))) (let z : 0 + i ≡ i = omega arith in z)
-
--- the same here, with leases for the guards
-abbrev as_leases : ℕ → List PlainGuard → List Hold
-as_leases buckets [] = []
-as_leases buckets (g ∷ gs) = as_hold buckets g ∷ as_leases buckets gs
 
 abbrev pub feigns_all : Authority → (registry script : List ℕ) (place : ℕ) (held keys grants : List ℕ) → Authority × Says
 feigns_all w registry script place held keys grants =

@@ -28,17 +28,19 @@ use Rattle.laws.specs.Lists.{holds_few, as_many}
 use Rattle.history.specs.World as world
 use Rattle.history.specs.World.{Live, Lawful, now}
 use Rattle.history.proofs.Theorems.{lawful_always}
-use Rattle.history.specs.Items.{release_all_lem, unchanged, perform, Clear}
+use Rattle.history.specs.Items.{release_all, unchanged, perform, Clear}
 use Rattle.history.specs.Statements.{leaves}
 use Rattle.history.specs.Judged.{past_checks, refused_so}
 use Rattle.history.specs.Tests.{In, in_cases, in_take, holds_equal, differ}
-use Rattle.history.proofs.Steps.{world_at, With, of_flow, of_run}
+use Rattle.history.specs.Steps.{world_at, With, of_flow, of_run}
 use Rattle.history.specs.Events.{lives}
 use Rattle.history.proofs.Calls.{words_leases}
 use Rattle.upstream.specs.Vocabulary.{Key, Authority, Leases, is_some_serial, lease_key, next_serial, dom, cells, ValidCell, authorized, Release, GivesUp, leases_authorized}
 use Rattle.upstream.specs.Premises.{Own, lease_at, AllOwn, valid_at, keeps_valid, leases_valid, Scripted}
-use Rattle.upstream.proofs.Protocol.{Trace, ended, trace_valid_at, trace_buries, step_keeps, step_frees, owner_of}
-use Rattle.upstream.proofs.Bridge.{hold_at_lem, live_authorized, issued_live, cell_live, lawful_trace, Sized, fits_sized, sized_now, by_checks}
+use Rattle.upstream.specs.Protocol.{Trace, ended}
+use Rattle.upstream.proofs.Protocol.{trace_valid_at, trace_buries, step_keeps, step_frees, owner_of}
+use Rattle.upstream.specs.Bridge.{Sized}
+use Rattle.upstream.proofs.Bridge.{hold_at_lem, live_authorized, issued_live, cell_live, lawful_trace, fits_sized, sized_now, by_checks}
 use Rattle.upstream.proofs.Refusing.{unauthorized, on_damaged, is_dead, over}
 use Rattle.upstream.proofs.Passing.{release_passes}
 use Rattle.upstream.proofs.TryAcquire.{fine_fault}
@@ -185,7 +187,7 @@ plus_zero i = omega arith
 
 module _ (w : Authority) (script : List ℕ) (place : ℕ) (leases : List ℕ) where
   abbrev final : Authority
-  final = leaves w (release_all_lem script place leases)
+  final = leaves w (release_all script place leases)
 
   abbrev ls : List Hold
   ls = holds_of leases
@@ -203,10 +205,10 @@ module _ (w : Authority) (script : List ℕ) (place : ℕ) (leases : List ℕ) w
   UpTo i = Clear (not_releasable w.head w.table 0 [] (take i named))
 
   behind : (r : Refusal) → Before → first (not_releasable w.head w.table 0 [] named) ≡ Fault r
-      → perform w (release_all_lem script place leases) ≡ unchanged w (release_all_lem script place leases) r
+      → perform w (release_all script place leases) ≡ unchanged w (release_all script place leases) r
   unfolding release_rules
   behind r c e =
-      refused_so w (release_all_lem script place leases) r
+      refused_so w (release_all script place leases) r
       (first_skip (bad_shape w.head w.table) _ c.0 ∙ first_skip (bad_health w.head w.health) _ c.1.0
       ∙ first_skip (bad_script script place) _ c.1.1.0 ∙ first_skip (too_many_leases leases) _ c.1.1.1.0 ∙ e)
 
@@ -224,13 +226,13 @@ module _ (w : Authority) (script : List ℕ) (place : ℕ) (leases : List ℕ) w
   pub went : Trace Nobody w final
   unfolding release_rules
   went =
-      let x = lawful_always w (release_all_lem script place leases) in
-      by_checks (λ m. (m.seen.0 ≡ now w m.log) → Lawful w m.log → Trace Nobody w m.seen.0) w (release_all_lem script place leases) (λ r e q k. ended w)
-      (λ e k q l. subst (Trace Nobody w) (sym q) (lawful_trace Nobody w (past_checks w (release_all_lem script place leases)).log (fits_sized w (not-false _ k.0)) l (λ l x. absurd x))) x.1 x.0
+      let x = lawful_always w (release_all script place leases) in
+      by_checks (λ m. (m.seen.0 ≡ now w m.log) → Lawful w m.log → Trace Nobody w m.seen.0) w (release_all script place leases) (λ r e q k. ended w)
+      (λ e k q l. subst (Trace Nobody w) (sym q) (lawful_trace Nobody w (past_checks w (release_all script place leases)).log (fits_sized w (not-false _ k.0)) l (λ l x. absurd x))) x.1 x.0
 
   -- 12 with the position, of a lease of this boot
   dead : (i : ℕ) → i < length ls → Before → UpTo i → Own w (lease_at named i) → (Live w (hold_at ls i) → ⊥)
-      → perform w (release_all_lem script place leases) ≡ unchanged w (release_all_lem script place leases) (NotHeld i)
+      → perform w (release_all script place leases) ≡ unchanged w (release_all script place leases) (NotHeld i)
   dead i l b u o n =
       behind (NotHeld i) b
       (not_releasable_dead w 0 [] named i (omega (arith, as_many leases, l)) u o (subst (λ (k : Hold). Live w k → ⊥) (hold_at_lem leases i) n)
@@ -238,17 +240,17 @@ module _ (w : Authority) (script : List ℕ) (place : ℕ) (leases : List ℕ) w
 
   -- valid(old(authority)): 12 with the position, where a lease's cell is damaged
   pub release_all_r1 : (i : ℕ) → i < length ls → Before → UpTo i → Own w (lease_at named i) → (ValidCell (next_serial w) (cells w (hold_at ls i).cell) → ⊥)
-      → perform w (release_all_lem script place leases) ≡ unchanged w (release_all_lem script place leases) (NotHeld i)
+      → perform w (release_all script place leases) ≡ unchanged w (release_all script place leases) (NotHeld i)
   release_all_r1 i l b u o n = dead i l b u o (on_damaged w (hold_at ls i) n)
 
   -- authorized(old(authority), &leases[i]): 12 with the position
   pub release_all_r2 : (i : ℕ) → i < length ls → Before → UpTo i → Own w (lease_at named i) → (authorized w (hold_at ls i) → ⊥)
-      → perform w (release_all_lem script place leases) ≡ unchanged w (release_all_lem script place leases) (NotHeld i)
+      → perform w (release_all script place leases) ≡ unchanged w (release_all script place leases) (NotHeld i)
   release_all_r2 i l b u o n = dead i l b u o (unauthorized w (hold_at ls i) n)
 
   -- lease_key(&leases[i]) != lease_key(&leases[j]): 14 with the later position; two authorized leases on one cell have one serial
   pub release_all_r3 : (i j : ℕ) → i < j → j < length ls → Before → UpTo j → Own w (lease_at named j) → valid_at w (hold_at ls j).cell → authorized w (hold_at ls i) → authorized w (hold_at ls j)
-      → lease_key (hold_at ls i) ≡ lease_key (hold_at ls j) → perform w (release_all_lem script place leases) ≡ unchanged w (release_all_lem script place leases) (Repeated j)
+      → lease_key (hold_at ls i) ≡ lease_key (hold_at ls j) → perform w (release_all script place leases) ≡ unchanged w (release_all script place leases) (Repeated j)
   release_all_r3 i j p q b u o v x y e =
       let same : hold_at ls i ≡ hold_at ls j = holds_equal (hold_at ls i) (hold_at ls j) e (sym x.mine.1 ∙ ap (λ (k : Key). (cells w k).owner) e ∙ y.mine.1) in
       behind (Repeated j) b
@@ -267,14 +269,14 @@ module _ (w : Authority) (script : List ℕ) (place : ℕ) (leases : List ℕ) w
       → (i : ℕ) → i < length ls → authorized final (hold_at ls i) → ⊥
   unfolding release_rules
   release_all_e3 s m o v a =
-      by_checks (λ m. (i : ℕ) → i < length ls → authorized m.seen.0 (hold_at ls i) → ⊥) w (release_all_lem script place leases)
+      by_checks (λ m. (i : ℕ) → i < length ls → authorized m.seen.0 (hold_at ls i) → ⊥) w (release_all script place leases)
       (λ r e. absurd (fine_fault (release_passes w script place leases s m o v a.0 a.1) e))
       (λ e k i l x. (gone_all (fits_sized w (not-false _ k.0)) v a).gone i (omega (arith, holds_few leases)) x.mine)
 
   -- no list of leases, or more than 64 of them: 4
-  pub release_too_many : Scripted w script place → 64 < lease_count leases → perform w (release_all_lem script place leases) ≡ unchanged w (release_all_lem script place leases) TooMany
+  pub release_too_many : Scripted w script place → 64 < lease_count leases → perform w (release_all script place leases) ≡ unchanged w (release_all script place leases) TooMany
   unfolding release_rules
   release_too_many c b =
-      refused_so w (release_all_lem script place leases) TooMany
+      refused_so w (release_all script place leases) TooMany
       (first_skip (bad_shape w.head w.table) _ c.0 ∙ first_skip (bad_health w.head w.health) _ c.1.0
       ∙ first_skip (bad_script script place) _ c.1.1.0 ∙ first_hit (too_many_leases leases) _ (over leases b))

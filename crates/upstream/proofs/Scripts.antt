@@ -28,14 +28,18 @@ use Rattle.history.specs.World as world
 use Rattle.history.specs.World.{Live}
 use Rattle.history.specs.Events.{lives}
 use Rattle.history.specs.Tests.{differ, holds_equal, In, in_first, in_cases, in_left, in_right, in_either}
-use Rattle.history.proofs.Logs.{Kept}
-use Rattle.history.proofs.Steps.{world_at, With, of_flow, of_locked, of_run, of_tried, step_kept}
+use Rattle.history.specs.Logs.{Kept}
+use Rattle.history.specs.Steps.{world_at, With, of_flow, of_locked, of_run, of_tried}
+use Rattle.history.proofs.Steps.{step_kept}
 use Rattle.laws.specs.Keys.{place_inside}
 use Rattle.upstream.specs.Vocabulary.{Authority, Acquires, Leases, next_serial, cells, authorized, Step, Acquire, Release, step, releases}
-use Rattle.upstream.proofs.Protocol.{Trace, ended, first, join, loosen}
-use Rattle.upstream.proofs.Bridge.{live_authorized, trace_live, grants_live, Sized, sized_now, lawful_trace, event_step}
-use Rattle.upstream.specs.Keys.{Finds, bad_header_lem, poisoned, bad_bucket, at, finds}
-use Rattle.upstream.proofs.TryAcquire.{Tries, acquired, tries_some, tries_none, tries_sized}
+use Rattle.upstream.specs.Protocol.{Trace, ended, first}
+use Rattle.upstream.proofs.Protocol.{join, loosen}
+use Rattle.upstream.specs.Bridge.{Sized}
+use Rattle.upstream.proofs.Bridge.{live_authorized, trace_live, grants_live, sized_now, lawful_trace, event_step}
+use Rattle.upstream.specs.Keys.{Finds, bad_header, poisoned, bad_bucket, at, finds}
+use Rattle.upstream.specs.TryAcquire.{Tries}
+use Rattle.upstream.proofs.TryAcquire.{acquired, tries_some, tries_none, tries_sized}
 
 -- ---- a way from one state to another
 
@@ -209,7 +213,7 @@ module _ (h : Head) (script : List ℕ) where
 
       go : {x : Found} → Finds h.headers h.buckets g registry binding bucket x
           → Attempts (In ps) (world_at h r.flow.next t g) (attempt_at x (given h script ps) h.buckets r t g).seen
-      go (bad_header_lem p) = none
+      go (bad_header p) = none
       go (poisoned p q) = none
       go (bad_bucket p q s) = none
       go (at p q s) =

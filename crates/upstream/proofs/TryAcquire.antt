@@ -1,4 +1,5 @@
 -- 000: `try_acquire`, and the compare-and-set inside it (`Atomics::compare_exchange`).
+-- ---- what one `try_acquire` comes to, whatever the table holds; F says that no check of the call applies
 use Rattle.std.specs.Prelude.{ℕ, ◌+◌, ◌≤◌, ◌<◌, ◌≡◌, refl, true, ◌↔◌, ◌⊎◌, length}
 use Rattle.std.proofs.Common.{ap, ◌∙◌, inl, inr, arith, ltb-true, ltb-false, leb-false, le-leb}
 use mathlib.Core.List.{List, [], ◌∷◌}
@@ -25,24 +26,16 @@ use Rattle.types.specs.declared.Took.{Took}
 use Rattle.laws.specs.Words.{length_set_cell}
 use Rattle.history.specs.Judged.{refused_so}
 use Rattle.history.specs.World.{world_of}
-use Rattle.history.specs.Items.{try_acquire_lem, unchanged, perform, rules}
+use Rattle.history.specs.Items.{try_acquire, unchanged, perform, rules}
 use Rattle.history.specs.Statements.{answers, leaves}
 use Rattle.history.specs.Tests.{Status, free, held, Stands, is_free_lem, is_held_lem, is_damaged, stands, if_cases}
 use Rattle.upstream.specs.Vocabulary.{Key, cell, is_some, is_none, Authority, lease_key, lease_serial, next_serial, dom, contains_key, cells, insert, CellsAre, answers_none, ValidCell, valid, authorized, framed, Acquire, Observe, Acquires, step}
 use Rattle.upstream.specs.Premises.{valid_at, keeps_valid, Fits}
 use Rattle.upstream.proofs.Protocol.{insert_framed, step_valid, step_valid_at, step_keeps, step_grants}
-use Rattle.upstream.proofs.Bridge.{status_valid, valid_status, Sized, fits_sized, put_cells, first_after, by_checks}
+use Rattle.upstream.specs.Bridge.{Sized}
+use Rattle.upstream.proofs.Bridge.{status_valid, valid_status, fits_sized, put_cells, first_after, by_checks}
 use Rattle.upstream.proofs.Passing.{cell_passes}
-
--- ---- what one `try_acquire` comes to, whatever the table holds; F says that no check of the call applies
-
-pub data Tries (F : Type 0) (w : Authority) (c : Key) : Answer → Authority → Type 0 where
-  takes : {v : Authority} → Acquires w v c (next_serial w) → next_serial w < last_serial → Sized v → Tries F w c (Granted (lease_of c (next_serial w) w.head.boot)) v
-  busy : contains_key w c → (cells w c).bit ≡ 1 → is_some (cells w c).owner → (cells w c).owner < next_serial w
-      → Tries F w c (Busy (reason.Held (cells w c).owner)) w
-  damaged : contains_key w c → (ValidCell (next_serial w) (cells w c) → ⊥) → Tries F w c (Refused (Damaged c)) w
-  spent : contains_key w c → (cells w c).bit ≡ 0 → is_none (cells w c).owner → last_serial ≤ next_serial w → Tries F w c (Refused (SerialsSpent c)) w
-  barred : (r : Refusal) → (F → ⊥) → Tries F w c (Refused r) w
+use Rattle.upstream.specs.TryAcquire.{Tries, takes, busy, damaged, spent, barred}
 
 pub acquired : (F : Type 0) (n : ℕ) (w : Authority) (c : Key) → Sized w → contains_key w c
     → let m = (acquire_of n w.head w.table c).seen in Tries F w c m.0.answer (world_of m.0.head m.1 w.health)
@@ -183,18 +176,18 @@ fine_fault p q = let z : ◌≡◌ {A = ℕ} 0 1 = cc in omega arith
 
 module _ (w : Authority) (c : Key) where
   abbrev result : Answer
-  result = answers w (try_acquire_lem c)
+  result = answers w (try_acquire c)
 
   abbrev final : Authority
-  final = leaves w (try_acquire_lem c)
+  final = leaves w (try_acquire c)
 
   abbrev Checked : Type 0
-  Checked = first (rules w (try_acquire_lem c)) ≡ Fine
+  Checked = first (rules w (try_acquire c)) ≡ Fine
 
   pub tried : Tries Checked w c result final
   unfolding cell_rules
   tried =
-      by_checks (λ m. Tries Checked w c m.seen.1.answer m.seen.0) w (try_acquire_lem c) (λ r e. barred r (λ f. fine_fault f e))
+      by_checks (λ m. Tries Checked w c m.seen.1.answer m.seen.0) w (try_acquire c) (λ r e. barred r (λ f. fine_fault f e))
       (λ e k. acquired Checked 1 w c (fits_sized w (not-false _ k.0)) (leb-false _ _ k.1.0))
 
   -- valid(old(authority)): 9, where the cell that is to be taken is damaged
@@ -202,10 +195,10 @@ module _ (w : Authority) (c : Key) where
   try_acquire_r1 = tries_damaged tried
 
   -- cells(old(authority)).contains_key(key): 8
-  pub try_acquire_r2 : shape_fits w.head (length w.table) ≡ true → (contains_key w c → ⊥) → perform w (try_acquire_lem c) ≡ unchanged w (try_acquire_lem c) (InvalidBucket c)
+  pub try_acquire_r2 : shape_fits w.head (length w.table) ≡ true → (contains_key w c → ⊥) → perform w (try_acquire c) ≡ unchanged w (try_acquire c) (InvalidBucket c)
   unfolding cell_rules
   try_acquire_r2 s n =
-      refused_so w (try_acquire_lem c) (InvalidBucket c)
+      refused_so w (try_acquire c) (InvalidBucket c)
       (first_after (bad_shape w.head w.table ∷ []) (bad_cell w.head c) [] (ap not s, tt) (le-leb (cells_of w.head) c (omega arith)))
 
   pub try_acquire_valid : valid w → valid final

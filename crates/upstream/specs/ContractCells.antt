@@ -9,8 +9,8 @@ use Rattle.types.specs.declared.Reason.{Reason}
 use Rattle.types.specs.declared.Reason.TheVariants as reason
 use Rattle.types.specs.declared.Refusal.TheVariants.{InvalidBucket, Damaged, SerialsSpent, NotHeld}
 use Rattle.history.specs.World.{World}
-use Rattle.history.specs.Items.{try_acquire_lem, drop_lease, read_permission, competing_acquire, release_then_handoff, Says, unchanged, Build}
-use Rattle.history.specs.Statements.{answer_in_lem as result, world_in as final}
+use Rattle.history.specs.Items.{try_acquire, drop_lease, read_permission, competing_acquire, release_then_handoff, Says, unchanged, Build}
+use Rattle.history.specs.Statements.{answer_in as result, world_in as final}
 use Rattle.upstream.specs.Vocabulary.{Key, cell, Authority, lease_key, lease_serial, next_serial, dom, contains_key, cells, insert, CellsAre, answers_none, valid, authorized, framed, Acquire, Release, Observe, step}
 use Rattle.upstream.specs.Premises.{Own, valid_at, keeps_valid, Fits}
 
@@ -47,7 +47,7 @@ pub record EnsuresCompareExchange (w : Authority) (key : Key) (m : Made (World �
 -- what holds here
 pub record HereCompareExchange (w : Authority) (key : Key) (m : Made (World × Says)) : Type 0 where
   pub r1 : Fits w → contains_key w key → (valid_at w key → ⊥) → (result m ≡ Refused (Damaged key)) × (final m ≡ w)
-  pub r2 : Fits w → (contains_key w key → ⊥) → m ≡ unchanged w (try_acquire_lem key) (InvalidBucket key)
+  pub r2 : Fits w → (contains_key w key → ⊥) → m ≡ unchanged w (try_acquire key) (InvalidBucket key)
   pub e1 : Fits w → valid_at w key → contains_key w key
       → (((l : Lease) × (result m ≡ Granted l)) ↔ (((cells w key).bit ≡ 0) × (next_serial w < last_serial)))
       × ((result m ≡ Refused (SerialsSpent key)) ↔ (((cells w key).bit ≡ 0) × (last_serial ≤ next_serial w)))
@@ -65,10 +65,10 @@ abbrev pub ContractCompareExchange : Build → Type 0
 ContractCompareExchange b =
     (w : Authority) (key : Key)
     → RequiresCompareExchange w key
-    → EnsuresCompareExchange w key (b w (try_acquire_lem key))
+    → EnsuresCompareExchange w key (b w (try_acquire key))
 
 abbrev pub PromiseCompareExchange : Build → Type 0
-PromiseCompareExchange b = (w : Authority) (key : Key) → HereCompareExchange w key (b w (try_acquire_lem key))
+PromiseCompareExchange b = (w : Authority) (key : Key) → HereCompareExchange w key (b w (try_acquire key))
 
 -- ---- 000.store: bit and owner are one write, and the value is always 0
 
@@ -149,7 +149,7 @@ pub record EnsuresTryAcquire (w : Authority) (key : Key) (m : Made (World × Say
 -- what holds here
 pub record HereTryAcquire (w : Authority) (key : Key) (m : Made (World × Says)) : Type 0 where
   pub r1 : Fits w → contains_key w key → (valid_at w key → ⊥) → (result m ≡ Refused (Damaged key)) × (final m ≡ w)
-  pub r2 : Fits w → (contains_key w key → ⊥) → m ≡ unchanged w (try_acquire_lem key) (InvalidBucket key)
+  pub r2 : Fits w → (contains_key w key → ⊥) → m ≡ unchanged w (try_acquire key) (InvalidBucket key)
   pub e1 : keeps_valid w (final m)
   pub e2 : framed w (final m) key
   pub e3 : (l : Lease) → result m ≡ Granted l → lease_key (hold_in l) ≡ key
@@ -170,10 +170,10 @@ abbrev pub ContractTryAcquire : Build → Type 0
 ContractTryAcquire b =
     (w : Authority) (key : Key)
     → RequiresTryAcquire w key
-    → EnsuresTryAcquire w key (b w (try_acquire_lem key))
+    → EnsuresTryAcquire w key (b w (try_acquire key))
 
 abbrev pub PromiseTryAcquire : Build → Type 0
-PromiseTryAcquire b = (w : Authority) (key : Key) → HereTryAcquire w key (b w (try_acquire_lem key))
+PromiseTryAcquire b = (w : Authority) (key : Key) → HereTryAcquire w key (b w (try_acquire key))
 
 -- ---- 000.drop_lease
 

@@ -9,8 +9,8 @@ use Rattle.model.specs.Lock.{hold_at}
 use Rattle.types.specs.declared.Answer.TheVariants.{AllGranted}
 use Rattle.types.specs.declared.Refusal.TheVariants.{BadScript, TooMany, BadBinding, NotHeld, Repeated}
 use Rattle.history.specs.World.{World}
-use Rattle.history.specs.Items.{Call, release_all_lem, acquire_locks, Says, unchanged, Build}
-use Rattle.history.specs.Statements.{answer_in_lem as result, world_in as final, buffer_in as buffer}
+use Rattle.history.specs.Items.{Call, release_all, acquire_locks, Says, unchanged, Build}
+use Rattle.history.specs.Statements.{answer_in as result, world_in as final, buffer_in as buffer}
 use Rattle.upstream.specs.Vocabulary.{cell, Authority, lease_key, dom, valid, authorized, leases_authorized, key_at, keys_valid, guards_match, all_guards_in}
 use Rattle.upstream.specs.Premises.{Own, lease_at, AllOwn, valid_at, keeps_valid, leases_valid, Scripted, WholeArena, WholeKeyed, KeyedHeldGood, Few, LeasesCounted, GoodBefore, KeysCounted}
 
@@ -42,19 +42,19 @@ module _ (w : Authority) (script : List ℕ) (place : ℕ) (leases : List ℕ) w
   pub record HereReleaseAll (m : Made (World × Says)) : Type 0 where
     pub r1 : (i : ℕ) → i < length (holds_of leases) → LeasesCounted w script place leases → GoodBefore w leases i
         → Own w (lease_at (leases_of leases) i) → (valid_at w (hold_at (holds_of leases) i).cell → ⊥)
-        → m ≡ unchanged w (release_all_lem script place leases) (NotHeld i)
+        → m ≡ unchanged w (release_all script place leases) (NotHeld i)
     pub r2 : (i : ℕ) → i < length (holds_of leases) → LeasesCounted w script place leases → GoodBefore w leases i
         → Own w (lease_at (leases_of leases) i) → (authorized w (hold_at (holds_of leases) i) → ⊥)
-        → m ≡ unchanged w (release_all_lem script place leases) (NotHeld i)
+        → m ≡ unchanged w (release_all script place leases) (NotHeld i)
     pub r3 : (i j : ℕ) → i < j → j < length (holds_of leases) → LeasesCounted w script place leases
         → GoodBefore w leases j → Own w (lease_at (leases_of leases) j) → valid_at w (hold_at (holds_of leases) j).cell
         → authorized w (hold_at (holds_of leases) i) → authorized w (hold_at (holds_of leases) j)
         → lease_key (hold_at (holds_of leases) i) ≡ lease_key (hold_at (holds_of leases) j)
-        → m ≡ unchanged w (release_all_lem script place leases) (Repeated j)
+        → m ≡ unchanged w (release_all script place leases) (Repeated j)
     pub limit : Scripted w script place → 64 < lease_count leases
-        → m ≡ unchanged w (release_all_lem script place leases) TooMany
+        → m ≡ unchanged w (release_all script place leases) TooMany
     pub script_limit : WholeArena w → 32768 < steps_in script
-        → m ≡ unchanged w (release_all_lem script place leases) BadScript
+        → m ≡ unchanged w (release_all script place leases) BadScript
     pub e1 : keeps_valid w (final m)
     pub e2 : dom (final m) ≡ dom w
     pub e3 : Scripted w script place → Few leases → AllOwn w leases → leases_valid w (holds_of leases)
@@ -70,12 +70,12 @@ abbrev pub ContractReleaseAll : Build → Type 0
 ContractReleaseAll b =
     (w : Authority) (script : List ℕ) (place : ℕ) (leases : List ℕ)
     → RequiresReleaseAll w script place leases
-    → EnsuresReleaseAll w script place leases (b w (release_all_lem script place leases))
+    → EnsuresReleaseAll w script place leases (b w (release_all script place leases))
 
 abbrev pub PromiseReleaseAll : Build → Type 0
 PromiseReleaseAll b =
     (w : Authority) (script : List ℕ) (place : ℕ) (leases : List ℕ)
-    → HereReleaseAll w script place leases (b w (release_all_lem script place leases))
+    → HereReleaseAll w script place leases (b w (release_all script place leases))
 
 module _ (w : Authority) (registry script : List ℕ) (place : ℕ) (held keys grants : List ℕ) where
   abbrev call : Call

@@ -25,10 +25,10 @@ use Rattle.choice.specs.Pick.{if_both}
 use Rattle.laws.specs.Outcomes as locked
 use Rattle.laws.specs.Outcomes.{Comes, lock_comes}
 use Rattle.history.specs.Tests.{differ, if_cases}
-use Rattle.history.proofs.Steps.{With}
+use Rattle.history.specs.Steps.{With}
 
 pub data Finds (headers buckets : ℕ) (g registry : List ℕ) (binding bucket : ℕ) : Found → Type 0 where
-  bad_header_lem : headers ≤ get_or registry binding 0
+  bad_header : headers ≤ get_or registry binding 0
       → Finds headers buckets g registry binding bucket (found.Fault (BadHeader (get_or registry binding 0)))
   poisoned : get_or registry binding 0 < headers → (get_or g (get_or registry binding 0) 0 ≡ 0 → ⊥)
       → Finds headers buckets g registry binding bucket (found.Fault (Poisoned (get_or registry binding 0)))
@@ -40,7 +40,7 @@ pub data Finds (headers buckets : ℕ) (g registry : List ℕ) (binding bucket :
 pub finds : (headers buckets : ℕ) (g registry : List ℕ) (binding bucket : ℕ) → Finds headers buckets g registry binding bucket (find_of headers buckets g registry binding bucket)
 unfolding find_of
 finds headers buckets g registry binding bucket =
-    if_cases P (leb headers header) (λ e. bad_header_lem (leb-true headers header e))
+    if_cases P (leb headers header) (λ e. bad_header (leb-true headers header e))
     (λ e. if_cases P (not (eqb (get_or g header 0) 0)) (λ x. poisoned (leb-false headers header e) (λ z. differ (sym (not-true _ x) ∙ eq-eqb (get_or g header 0) 0 z)))
     (λ x. if_cases P (leb buckets bucket) (λ y. bad_bucket (leb-false headers header e) (eqb-true (get_or g header 0) 0 (not-false _ x)) (leb-true buckets bucket y))
     (λ y. at (leb-false headers header e) (eqb-true (get_or g header 0) 0 (not-false _ x)) (leb-false buckets bucket y))))
@@ -86,7 +86,7 @@ module _ (e : Setting) (buckets : ℕ) (registry : List ℕ) (binding bucket : �
   attempt_key r t g = go (finds e.headers buckets g registry binding bucket)
     where
       go : {x : Found} → Finds e.headers buckets g registry binding bucket x → GrantsKey (attempt_at x e buckets r t g).seen
-      go (bad_header_lem p) l q = let z : ◌≡◌ {A = ℕ} 0 1 = cc in absurd (omega arith)
+      go (bad_header p) l q = let z : ◌≡◌ {A = ℕ} 0 1 = cc in absurd (omega arith)
       go (poisoned p s) l q = let z : ◌≡◌ {A = ℕ} 0 1 = cc in absurd (omega arith)
       go (bad_bucket p s k) l q = let z : ◌≡◌ {A = ℕ} 0 1 = cc in absurd (omega arith)
       go (at p s k) l q =

@@ -13,7 +13,7 @@ use Rattle.types.specs.declared.Flow.{Flow}
 use Rattle.types.specs.declared.Lease.{Lease}
 use Rattle.history.specs.World.{Live}
 use Rattle.history.specs.Items.{Call, Clear, rules}
-use Rattle.history.proofs.Steps.{With, of_flow}
+use Rattle.history.specs.Steps.{With, of_flow}
 use Rattle.upstream.specs.Vocabulary.{Key, Authority, ReadLease, lease_key, next_serial, contains_key, cells, ValidCell, authorized}
 
 -- ---- of `valid`, what is asked of single cells

@@ -1,9 +1,8 @@
 -- Laws about the reader's stages, for code and theory alike: what is true of the stages that are reached, and how many
 -- words are read.
+-- ---- tests that hold
 use Rattle.std.specs.Prelude.{ℕ, zero, suc, ◌+◌, ◌*◌, ◌-◌, ◌≤◌, ◌<◌, ◌≡◌, refl, List, [], ◌∷◌, Bool, true, false, ltb, leb, eqb, length, get_or, if◌then◌else◌}
 use Rattle.std.proofs.Common.{arith, ltb-true, leb-true, eqb-true, eq-eqb}
--- ---- tests that hold
-
 pub use Rattle.choice.specs.Pick.{false_not}
 use Rattle.wave_rules.specs.Lines.{Items, finish, torn, line, same}
 use Rattle.wave_rules.specs.Dump.{turns, changes_of, timescale, scope_line, var_line, upscope, end_line, time_line, bit_line}
@@ -13,6 +12,7 @@ use Rattle.wave_rules.specs.declared.Verdict.{Verdict}
 use Rattle.wave_rules.specs.declared.Verdict.TheVariants.{Fine, Bad}
 use Rattle.wave_rules.specs.Reader.{time_in, cell_in, after_variable, after_value, is_time, is_change, next_of, bits_of, at_end, unless, verdict_of, idle, kind_for, script_words_at, script_words_of}
 use Rattle.wave_rules.specs.Stages.{Reach}
+use Rattle.wave_rules.specs.Stages.{last_in}
 
 pub bad_not : {A : Type 0} {k n last : ℕ} → Bad k ≡ Fine n last → A
 bad_not z = let w : ◌≡◌ {A = ℕ} 0 1 = cc in absurd (omega arith)
@@ -86,20 +86,6 @@ reach_next (Values n c) bits x h = reach_value n c x h.0 h.1
 reach_next (Waiting n last) bits x h = reach_if (is_time last x) (Changing n last (time_in x)) (λ e. let t = time_later last x e in (h.0, h.1, t.0, t.1))
 reach_next (Changing n last t) bits x h = reach_if (is_change n bits x) (Waiting n t) (λ e. (h.0, h.1))
 reach_next Lost bits x h = tt
-
--- ---- how many words: three for each step up to the last change
-
--- the time of the last change that a stage has seen
-abbrev pub last_in : Stage → ℕ
-last_in Opening = 0
-last_in Scope = 0
-last_in (Variables n) = 0
-last_in (Ending n) = 0
-last_in (Start n) = 0
-last_in (Values n c) = 0
-last_in (Waiting n last) = last
-last_in (Changing n last t) = last
-last_in Lost = 0
 
 pub idle_length : (g : ℕ) (w : List ℕ) → length (idle g w) ≡ 3 * g + length w
 unfolding idle

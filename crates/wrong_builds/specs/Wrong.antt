@@ -26,7 +26,7 @@ use Rattle.types.specs.declared.Refusal.TheVariants as refusal
 use Rattle.types.specs.declared.Run.{Run}
 use Rattle.types.specs.declared.Tried.{Tried}
 use Rattle.history.specs.World.{World, world_of, now, caller_releases}
-use Rattle.history.specs.Items.{Call, try_acquire_lem, drop_lease, read_permission, competing_acquire, release_then_handoff, foreign_release, drop_preserving, acquire_preserving, environment, try_lock_lem, transactional, acquire_bucket, release_all_lem, acquire_locks, acquire_sorted, crew, crew_at_work_lem, asked, cell_of, script_of_lem, place_of, held_of, given_up, Says, says, unchanged, perform, foreign, Build, Stepper}
+use Rattle.history.specs.Items.{Call, try_acquire, drop_lease, read_permission, competing_acquire, release_then_handoff, foreign_release, drop_preserving, acquire_preserving, environment, try_lock, transactional, acquire_bucket, release_all, acquire_locks, acquire_sorted, crew, crew_at_work, asked, cell_of, script_of, place_of, held_of, given_up, Says, says, unchanged, perform, foreign, Build, Stepper}
 use Rattle.history.specs.Statements.{CrewBuild, scripted}
 
 -- ---- the same with another answer, and the like
@@ -156,7 +156,7 @@ retries_at remainder w registry script place held binding bucket = do
 
 abbrev pub others : (drop : World → Lease → Made (World × Says)) (key once : World → (registry script : List ℕ) (place : ℕ) (held : List ℕ) (binding bucket : ℕ) → Made (World × Says))
     (releases : World → (script : List ℕ) (place : ℕ) (leases : List ℕ) → Made (World × Says)) (locks sorted : World → (registry script : List ℕ) (place : ℕ) (held keys grants : List ℕ) → Made (World × Says)) → Build
-others drop key once releases locks sorted w (try_acquire_lem c) = perform w (try_acquire_lem c)
+others drop key once releases locks sorted w (try_acquire c) = perform w (try_acquire c)
 others drop key once releases locks sorted w (drop_lease l) = drop w l
 others drop key once releases locks sorted w (read_permission l) = perform w (read_permission l)
 others drop key once releases locks sorted w (competing_acquire l) = perform w (competing_acquire l)
@@ -165,14 +165,14 @@ others drop key once releases locks sorted w (foreign_release held l) = perform 
 others drop key once releases locks sorted w (drop_preserving held l) = perform w (drop_preserving held l)
 others drop key once releases locks sorted w (acquire_preserving held c) = perform w (acquire_preserving held c)
 others drop key once releases locks sorted w (environment script place held) = perform w (environment script place held)
-others drop key once releases locks sorted w (try_lock_lem script place held c) = perform w (try_lock_lem script place held c)
+others drop key once releases locks sorted w (try_lock script place held c) = perform w (try_lock script place held c)
 others drop key once releases locks sorted w (transactional registry script place held binding bucket) = once w registry script place held binding bucket
 others drop key once releases locks sorted w (acquire_bucket registry script place held binding bucket) = key w registry script place held binding bucket
-others drop key once releases locks sorted w (release_all_lem script place leases) = releases w script place leases
+others drop key once releases locks sorted w (release_all script place leases) = releases w script place leases
 others drop key once releases locks sorted w (acquire_locks registry script place held keys grants) = locks w registry script place held keys grants
 others drop key once releases locks sorted w (acquire_sorted registry script place held keys grants) = sorted w registry script place held keys grants
 others drop key once releases locks sorted w (crew counts cells turns) = perform w (crew counts cells turns)
-others drop key once releases locks sorted w (crew_at_work_lem counts cells turns counters) = perform w (crew_at_work_lem counts cells turns counters)
+others drop key once releases locks sorted w (crew_at_work counts cells turns counters) = perform w (crew_at_work counts cells turns counters)
 
 abbrev pub our_drop : World → Lease → Made (World × Says)
 our_drop w l = perform w (drop_lease l)
@@ -184,7 +184,7 @@ abbrev pub our_once : World → (registry script : List ℕ) (place : ℕ) (held
 our_once w registry script place held binding bucket = perform w (transactional registry script place held binding bucket)
 
 abbrev pub our_releases : World → (script : List ℕ) (place : ℕ) (leases : List ℕ) → Made (World × Says)
-our_releases w script place leases = perform w (release_all_lem script place leases)
+our_releases w script place leases = perform w (release_all script place leases)
 
 abbrev pub our_locks : World → (registry script : List ℕ) (place : ℕ) (held keys grants : List ℕ) → Made (World × Says)
 our_locks w registry script place held keys grants = perform w (acquire_locks registry script place held keys grants)
@@ -299,13 +299,13 @@ abbrev pub exchanges_reasons : Build
 exchanges_reasons w k = answering (λ s. reworded (exchanged w.head.next) s.answer) (perform w k)
 
 -- the caller's next serial in place of the owner's
-abbrev pub held_by_lem : ℕ → Reason → Reason
-held_by_lem next (reason.Held s) = reason.Held next
-held_by_lem next reason.Before = reason.Before
-held_by_lem next (reason.After s) = reason.After s
+abbrev pub held_by : ℕ → Reason → Reason
+held_by next (reason.Held s) = reason.Held next
+held_by next reason.Before = reason.Before
+held_by next (reason.After s) = reason.After s
 
 abbrev pub names_next : Build
-names_next w k = answering (λ s. reworded (held_by_lem w.head.next) s.answer) (perform w k)
+names_next w k = answering (λ s. reworded (held_by w.head.next) s.answer) (perform w k)
 
 -- ---- document 02, L8: "A lease with another boot number is refused", and a grant has the head's
 
@@ -321,7 +321,7 @@ with_boot boot l = lease_under boot (hold_in l)
 
 -- a lease is tested by its cell and serial alone: whatever boot number it has, it is taken for one of this boot
 abbrev pub ignoring_boot : ℕ → Call → Call
-ignoring_boot b (try_acquire_lem c) = try_acquire_lem c
+ignoring_boot b (try_acquire c) = try_acquire c
 ignoring_boot b (drop_lease l) = drop_lease (with_boot b l)
 ignoring_boot b (read_permission l) = read_permission (with_boot b l)
 ignoring_boot b (competing_acquire l) = competing_acquire (with_boot b l)
@@ -330,14 +330,14 @@ ignoring_boot b (foreign_release held l) = foreign_release (rebooted b held) (wi
 ignoring_boot b (drop_preserving held l) = drop_preserving (rebooted b held) (with_boot b l)
 ignoring_boot b (acquire_preserving held c) = acquire_preserving (rebooted b held) c
 ignoring_boot b (environment script place held) = environment script place (rebooted b held)
-ignoring_boot b (try_lock_lem script place held c) = try_lock_lem script place (rebooted b held) c
+ignoring_boot b (try_lock script place held c) = try_lock script place (rebooted b held) c
 ignoring_boot b (transactional registry script place held binding bucket) = transactional registry script place (rebooted b held) binding bucket
 ignoring_boot b (acquire_bucket registry script place held binding bucket) = acquire_bucket registry script place (rebooted b held) binding bucket
-ignoring_boot b (release_all_lem script place leases) = release_all_lem script place (rebooted b leases)
+ignoring_boot b (release_all script place leases) = release_all script place (rebooted b leases)
 ignoring_boot b (acquire_locks registry script place held keys grants) = acquire_locks registry script place (rebooted b held) keys grants
 ignoring_boot b (acquire_sorted registry script place held keys grants) = acquire_sorted registry script place (rebooted b held) keys grants
 ignoring_boot b (crew counts cells turns) = crew counts cells turns
-ignoring_boot b (crew_at_work_lem counts cells turns counters) = crew_at_work_lem counts cells turns counters
+ignoring_boot b (crew_at_work counts cells turns counters) = crew_at_work counts cells turns counters
 
 abbrev pub ignores_boot : Build
 ignores_boot w k = perform w (ignoring_boot w.head.boot k)
@@ -377,7 +377,7 @@ abbrev pub boots_first : Build
 boots_first =
     others our_drop our_key our_once
     (λ w script place leases.
-    judge (first (scripted w script place ++ (too_many_leases leases ∷ other_boots w.head 0 (leases_of leases)))) (unchanged w (release_all_lem script place leases))
+    judge (first (scripted w script place ++ (too_many_leases leases ∷ other_boots w.head 0 (leases_of leases)))) (unchanged w (release_all script place leases))
     (our_releases w script place leases))
     our_locks our_sorted
 
@@ -440,7 +440,7 @@ place_stays w k = placing (place_of k) (perform w k)
 
 -- a number for each kind of call
 abbrev pub kind : Call → ℕ
-kind (try_acquire_lem c) = 0
+kind (try_acquire c) = 0
 kind (drop_lease l) = 1
 kind (read_permission l) = 2
 kind (competing_acquire l) = 3
@@ -449,14 +449,14 @@ kind (foreign_release held l) = 5
 kind (drop_preserving held l) = 6
 kind (acquire_preserving held c) = 7
 kind (environment script place held) = 8
-kind (try_lock_lem script place held c) = 9
+kind (try_lock script place held c) = 9
 kind (transactional registry script place held binding bucket) = 10
 kind (acquire_bucket registry script place held binding bucket) = 11
-kind (release_all_lem script place leases) = 12
+kind (release_all script place leases) = 12
 kind (acquire_locks registry script place held keys grants) = 13
 kind (acquire_sorted registry script place held keys grants) = 14
 kind (crew counts cells turns) = 15
-kind (crew_at_work_lem counts cells turns counters) = 16
+kind (crew_at_work counts cells turns counters) = 16
 
 abbrev pub but_for : ℕ → (World → Call → Made (World × Says) → Made (World × Says)) → Build
 but_for n f w k = if eqb (kind k) n then f w k (perform w k) else perform w k
@@ -473,8 +473,8 @@ leaves_a_waiter = but_for 6 λ w k m. if eqb (kind_of m.seen.1.answer) 0 then le
 abbrev pub third_begins : World → Call → ℕ
 third_begins w k =
     let held = words_of w.head.boot (held_of k) in
-    let x = perform w (environment (script_of_lem k) (place_of k) held) in
-    (perform x.seen.0 (environment (script_of_lem k) x.seen.1.place held)).seen.1.place
+    let x = perform w (environment (script_of k) (place_of k) held) in
+    (perform x.seen.0 (environment (script_of k) x.seen.1.place held)).seen.1.place
 
 abbrev pub seven_after_ten : Build
 seven_after_ten =

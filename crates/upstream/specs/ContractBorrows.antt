@@ -11,10 +11,10 @@ use Rattle.types.specs.declared.Lease.{Lease}
 use Rattle.types.specs.declared.Refusal.TheVariants.{BadScript, BadHeld, InvalidBucket, Damaged, SerialsSpent, NotHeld, Protected}
 use Rattle.history.specs.World.{World}
 use Rattle.history.specs.Items.{Call, foreign_release, drop_preserving, acquire_preserving, environment, Says, unchanged, Build}
-use Rattle.history.specs.Statements.{answer_in_lem as result, world_in as final}
+use Rattle.history.specs.Statements.{answer_in as result, world_in as final}
 use Rattle.upstream.specs.Vocabulary.{Key, cell, Authority, lease_key, lease_serial, next_serial, dom, contains_key, cells, valid, authorized, protected_valid, held_ids, leases_authorized, legal_environment, no_resurrection}
 use Rattle.upstream.specs.Premises.{Own, valid_at, keeps_valid, leases_valid, Fits, FirstBad, Short, Scripted, WholeArena, Passes, HeldGood, WellLong}
-use Rattle.upstream.proofs.Damage.{Damage, DropsDamaged, SetsWaiters}
+use Rattle.upstream.specs.Damage.{Damage, DropsDamaged, SetsWaiters}
 
 module _ (w : Authority) (script : List ℕ) (place : ℕ) (held : List ℕ) where
   abbrev call : Call

@@ -9,15 +9,15 @@ use Rattle.types.specs.declared.Answer.TheVariants.{Granted, Refused}
 use Rattle.types.specs.declared.Lease.{Lease}
 use Rattle.types.specs.declared.Refusal.TheVariants.{BadScript, BadHeld, InvalidBucket, Damaged}
 use Rattle.history.specs.World.{World}
-use Rattle.history.specs.Items.{Call, try_lock_lem, Says, unchanged, Build}
-use Rattle.history.specs.Statements.{answer_in_lem as result, world_in as final}
+use Rattle.history.specs.Items.{Call, try_lock, Says, unchanged, Build}
+use Rattle.history.specs.Statements.{answer_in as result, world_in as final}
 use Rattle.upstream.specs.Vocabulary.{Key, Authority, lease_key, dom, contains_key, valid, authorized, leases_authorized, guards_place}
 use Rattle.upstream.specs.Premises.{keeps_valid, Fits, FirstBad, Scripted, at_the_swap, SwapDamaged, WholeArena, Passes, ScriptedHeldGood, WellLong}
-use Rattle.upstream.proofs.Guards.{slot_of}
+use Rattle.upstream.specs.Guards.{slot_of}
 
 module _ (w : Authority) (script : List ℕ) (place : ℕ) (held : List ℕ) (key : Key) where
   abbrev call : Call
-  call = try_lock_lem script place held key
+  call = try_lock script place held key
 
   -- ---- 000.try_lock
 
@@ -117,30 +117,30 @@ abbrev pub ContractTryLock : Build → Type 0
 ContractTryLock b =
     (w : Authority) (script : List ℕ) (place : ℕ) (held : List ℕ) (key : Key)
     → RequiresTryLock w script place held key
-    → EnsuresTryLock w script place held key (b w (try_lock_lem script place held key))
+    → EnsuresTryLock w script place held key (b w (try_lock script place held key))
 
 abbrev pub PromiseTryLock : Build → Type 0
 PromiseTryLock b =
     (w : Authority) (script : List ℕ) (place : ℕ) (held : List ℕ) (key : Key)
-    → HereTryLock w script place held key (b w (try_lock_lem script place held key))
+    → HereTryLock w script place held key (b w (try_lock script place held key))
 
 abbrev pub ContractOtherMutexPreservesLeases : Build → Type 0
 ContractOtherMutexPreservesLeases b =
     (w : Authority) (script : List ℕ) (place : ℕ) (held : List ℕ) (key : Key)
     → RequiresOtherMutexPreservesLeases w script place held key
-    → EnsuresOtherMutexPreservesLeases w script place held key (b w (try_lock_lem script place held key))
+    → EnsuresOtherMutexPreservesLeases w script place held key (b w (try_lock script place held key))
 
 abbrev pub PromiseOtherMutexPreservesLeases : Build → Type 0
 PromiseOtherMutexPreservesLeases b =
     (w : Authority) (script : List ℕ) (place : ℕ) (held : List ℕ) (key : Key)
-    → HereOtherMutexPreservesLeases w script place held key (b w (try_lock_lem script place held key))
+    → HereOtherMutexPreservesLeases w script place held key (b w (try_lock script place held key))
 
 abbrev pub ContractGuardsTryLock : Build → Type 0
 ContractGuardsTryLock b =
     (w : Authority) (script : List ℕ) (place : ℕ) (held : List ℕ) (key : Key)
-    → EnsuresGuardsTryLock w script place held key (b w (try_lock_lem script place held key))
+    → EnsuresGuardsTryLock w script place held key (b w (try_lock script place held key))
 
 abbrev pub PromiseGuardsTryLock : Build → Type 0
 PromiseGuardsTryLock b =
     (w : Authority) (script : List ℕ) (place : ℕ) (held : List ℕ) (key : Key)
-    → HereGuardsTryLock w script place held key (b w (try_lock_lem script place held key))
+    → HereGuardsTryLock w script place held key (b w (try_lock script place held key))
