@@ -19,6 +19,8 @@ def clause_names(root):
         for folder, dirs, files in os.walk(os.path.join(root, crate, "src")):
             for f in files:
                 text = open(os.path.join(folder, f), encoding="utf-8").read()
+                for m in re.finditer(r"(?m)^\s*(?:pub )?fn (\w+)(?:<[^>]*>)?\((.*?)\)(?: ->[^{]*?)?\s*(?:requires|ensures|\{)", text, re.S):
+                    out.setdefault((crate, m[1]), {})["mut"] = re.findall(r"(\w+): &mut ", m[2])
                 for m in re.finditer(r"(?m)^\s*(?:pub )?fn (\w+)[^{]*?(?=\s(?:requires|ensures)\b)(.*?)^\s*\{$", text, re.S):
                     for kind in ("requires", "ensures"):
                         names = re.findall(rf"(?m)^\s*{kind} (\w+) \{{", m[2])
@@ -49,6 +51,9 @@ def blocks(text):
             cur.append(line)
     if cur:
         out.append(cur)
+    for b in out:
+        if b[0].endswith(" :") and len(b) > 1:
+            b[:2] = [b[0] + " " + b[1].strip()]
     return out
 
 
@@ -57,6 +62,26 @@ def continues(cur, line):
     if not m:
         return False
     return any(re.match(rf"{re.escape(n)}(?=\s|$)", line) and not re.match(rf"{re.escape(n)} :( |$)", line) for n in m[1].split(", "))
+
+
+def tuple_parts(text):
+    if not (text.startswith("(") and text.endswith(")")):
+        return None
+    depth, parts, start = 0, [], 1
+    for i, ch in enumerate(text):
+        if ch in "({[":
+            depth += 1
+        elif ch in ")}]":
+            depth -= 1
+            if depth == 0:
+                if i != len(text) - 1:
+                    return None
+                parts.append(text[start:i].strip().rstrip(","))
+        elif ch == "," and depth == 1:
+            parts.append(text[start:i].strip())
+            start = i + 1
+    parts = [p for p in parts if p]
+    return parts if len(parts) > 1 else None
 
 
 class Fn:
@@ -137,21 +162,87 @@ class Fn:
             step = self.places[p][1]
             if step[0] and norm(step[0]) == norm(field):
                 return "." + step[1], tail, p
+        bare = re.sub(r"\d+$", "", norm(field))
+        for p in near + line:
+            step = self.places[p][1]
+            if step[0] and re.sub(r"\d+$", "", norm(step[0])) == bare:
+                return "." + step[1], tail, p
         return None
 
     def clause(self, place, field, tail):
-        """A clause that had a number has a name."""
+        """A clause that had a number has a name, and so has what a call left in a lent argument."""
         if field == "requires":
-            names = self.clauses.get((self.crate, self.name), {}).get("requires")
-            m = re.match(r"\.(\d+)", tail)
-            return "." + names[int(m[1])] + tail[m.end() :] if names and m else tail
-        m = re.match(r"\.(ensures|requires)\.(\d+)", tail)
-        callee = self.places.get(place, (None, None, None))[2]
-        if m and callee:
-            names = self.clauses.get((callee.split("::")[0], callee.split("::")[-1]), {}).get(m[1])
-            if names and int(m[2]) < len(names):
-                return "." + m[1] + "." + names[int(m[2])] + tail[m.end() :]
+            return self.numbered((self.info["pre"] or {}).get("fields"), tail)
+        return self.of_call(self.places.get(place, (None, None, None))[2], tail)
+
+    def numbered(self, names, tail):
+        m = re.match(r"((?:\.\d+)+)", tail)
+        if not (names and m):
+            return tail
+        digits = [int(d) for d in m[1].split(".")[1:]]
+        at = 0
+        for i, d in enumerate(digits):
+            left = len(names) - at
+            at += d
+            if at >= len(names):
+                return tail
+            # a tuple nests to the right: .1 of more than two, with more behind it, is what is left of it
+            if not (d == 1 and left > 2 and i + 1 < len(digits)):
+                return "." + names[at] + "".join(f".{x}" for x in digits[i + 1 :]) + tail[m.end() :]
         return tail
+
+    def of_call(self, callee, tail):
+        if not callee:
+            return tail
+        if callee.split("::")[-1].startswith("wrapping_") and tail == ".ensures":
+            return ".ensures.value"
+        about = self.clauses.get((callee.split("::")[0], callee.split("::")[-1]), {})
+        m = re.match(r"\.(ensures|requires)(\.\d+.*)", tail)
+        if m:
+            return "." + m[1] + self.numbered(about.get(m[1]), m[2])
+        m = re.match(r"\.new((?:\.1)*)\.0", tail)
+        params = self.info["params"].get(callee)
+        if m and params and len(m[1]) // 2 < len(params):
+            return ".new." + params[len(m[1]) // 2] + tail[m.end() :]
+        m = re.match(r"\.auto(\.\d+.*)", tail)
+        if m and len(about.get("mut", [])) > 1:
+            return ".auto" + self.numbered(about["mut"], m[1])
+        return tail
+
+    def bound(self, text):
+        """The same behind names that a let gave to a call, to what it ensures, or to what is required."""
+        steps = {st[1]: callee for _, st, callee, _ in self.places.values() if callee}
+        for m in re.finditer(r"let (" + W + r") = c\.([\w'-]+)(\.ensures|\.requires)? in", text):
+            v, step, more = m[1], m[2], m[3] or ""
+            if step == "requires" and not more:
+                turn = lambda t: self.numbered((self.info["pre"] or {}).get("fields"), t)
+            elif step in steps:
+                turn = lambda t, c=steps[step], more=more: self.of_call(c, more + t)[len(more) :]
+            else:
+                continue
+            text = text[: m.end()] + re.sub(r"(?<![\w.'-])" + re.escape(v) + r"((?:\.[\w'-]+)+)", lambda w: v + turn(w[1]), text[m.end() :])
+        return text
+
+    def record(self, text, names, problems, what):
+        """An answer that was a tuple is a record of its clauses."""
+        depth, last = 0, text.index(" =") + 2
+        for w in re.finditer(r"[({]|[)}]|\bin\b", text):
+            if w[0] in "({":
+                depth += 1
+            elif w[0] in ")}":
+                depth -= 1
+            elif depth == 0 and w.start() > last:
+                last = w.end()
+        head, body = text[:last], text[last:]
+        parts = tuple_parts(body.strip())
+        while parts and len(parts) < len(names) and tuple_parts(parts[-1]):
+            parts[-1:] = tuple_parts(parts[-1])
+        if not parts or len(parts) != len(names):
+            if body.strip() != "search rules":
+                problems.append(f"{what}: no tuple of {len(names)} clauses")
+            return text
+        space = re.match(r"\s*", body)[0]
+        return head + space + "record { " + "; ".join(f"{n} = {p}" for n, p in zip(names, parts)) + " }"
 
     def arm(self, place, field, tail):
         """What an arm of a match now calls the field of a step."""
@@ -217,6 +308,11 @@ def convert(folder, info, problems):
             fn.goal = new
             rest = fn.path(place, rest, problems, f"{folder}: {name}")
             fn.goal = None
+            rest = fn.bound(rest)
+            asked = {norm(k): v for k, v in info["asked"].items()}
+            names = asked.get(key) or asked.get(re.sub(r"^overflow-", "", key)) or asked.get(norm(name))
+            if names:
+                rest = fn.record(rest, names, problems, f"{folder}: {name}")
             answers.append((new, rest))
         elif inv:
             invariants.append((name, b))
