@@ -115,12 +115,12 @@ def imported(text):
     return kit, ours
 
 
-def turned(word, to, kit):
-    if word in kit:
-        return word
-    if word in to:
-        return to[word]
-    return word
+def turn_use(m, to, end=""):
+    """An import line, of which m is the match: the names that come from our own modules are respelled."""
+    tail = (m[3] or "") + (m[4] or "")
+    if is_own(m[2]):
+        tail = WORD.sub(lambda w: w[0] if w[0] == "as" else to.get(w[0], plain(w[0])), tail)
+    return m[1] + m[2] + tail + end
 
 
 def turn_spec(path, text, to):
@@ -130,18 +130,12 @@ def turn_spec(path, text, to):
         code, comment = code_and_comment(line, "--")
         m = USE.match(code)
         if m:
-            tail = (m[3] or "") + (m[4] or "")
-            if is_own(m[2]):
-                tail = WORD.sub(lambda w: w[0] if w[0] == "as" else to.get(w[0], plain(w[0])), tail)
-            code = m[1] + m[2] + tail + (";" if code.rstrip().endswith(";") else "")
+            code = turn_use(m, to, ";" if code.rstrip().endswith(";") else "")
         else:
             # what is no name of the kit and no word of ours is a name bound in the file
             code = WORD.sub(lambda w: w[0] if w[0] in kit else to.get(w[0]) or (plain(w[0]) if w[0][0].islower() and local(w[0], code, w.start()) else w[0]), code)
         out.append(code.replace("◌and-then◌", "◌and_then◌") + turn_comment(comment, to, kit))
     return "\n".join(out)
-
-
-KEEP = {"Need", "case"}
 
 
 def local(word, code, at):
@@ -160,10 +154,7 @@ def turn_source(path, text, to):
         code, comment = code_and_comment(line, "//")
         m = USE.match(code)
         if m and "ghost" in m[1]:
-            tail = (m[3] or "") + (m[4] or "")
-            if is_own(m[2]):
-                tail = WORD.sub(lambda w: w[0] if w[0] == "as" else to.get(w[0], plain(w[0])), tail)
-            code = m[1] + m[2] + tail + ";"
+            code = turn_use(m, to, ";")
         else:
             parts = re.split(r'("(?:[^"\\]|\\.)*")', code)
             for i in range(0, len(parts), 2):

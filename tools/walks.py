@@ -110,7 +110,6 @@ class Fn:
             tail = m[4] or ""
             if field is None:
                 b = re.search(r"let (" + W + r") = $", text[: m.start()])
-                call = re.search(r"(?<![\w.'-])(" + W + r")(?: [^\s()]+)*? ?$", text[: m.start()])
                 if b:
                     at[b[1]] = p or at[v]
                     new = base
@@ -120,8 +119,6 @@ class Fn:
                         if w in self.helpers:
                             new = f"(goal.at.{self.goal} c).{self.helpers[w]}" if self.goal else base
                             break
-                    else:
-                        pass
                 out += text[i : m.start()] + new
                 i = m.end()
                 continue
@@ -269,12 +266,12 @@ def convert(folder, info, problems):
             if got:
                 fn.helpers[m[1]] = got[0]
     fn.clauses, fn.crate, fn.name = CLAUSES, info["module"].split(".")[1], info["module"].split(".")[-1].lstrip("+")
-    mod = info["module"]
-    uses, answers, invariants, helpers, head = [], [], [], [], []
+    uses, answers, invariants, helpers, head, above = [], [], [], [], [], []
     for b in blocks(text):
         first = b[0]
         if first.startswith("--"):
-            head.append(b)
+            # at the head of the file, or above what it is about
+            (above if uses else head).append(b)
             continue
         if first.startswith(("use ", "pub use ")):
             uses.append(first)
@@ -321,7 +318,8 @@ def convert(folder, info, problems):
                 old = [p for p in fn.byname if fn.byname[p] == fn.helpers[name]][0]
                 text_b = re.sub(r"tie\.[\w'-]+( Inv-\S+| μ-\S+| invariant-\S+| decreases-\S+)*(?=\))", fn.helpers[name], "\n".join(b), count=1)
                 b = fn.path(old, text_b, problems, f"{folder}: {name}").split("\n")
-            helpers.append((name, b))
+            helpers.append((name, [line for c in above for line in c if line] + b))
+        above = []
     return fn, uses, answers, invariants, helpers, head
 
 
@@ -333,7 +331,6 @@ def invariant(fn, name, b, problems, folder):
         problems.append(f"{folder}: {name}: odd invariant")
         return None
     params, body = m[2].split(), m[3]
-    now = {p for p in params if not p.endswith("\u2080")}
     names = {}
     for p in params:
         if p == "_":

@@ -1,7 +1,4 @@
 -- `crew::take_turns` meets its contract.
--- the member whose turn it is: it is named, one of sixteen, its list begins where `starts` says, and it wants few cells
--- what it has made and what it has left
--- where it moves
 use Prim.Native.Nat.{◌+◌, ◌*◌, ◌-◌, ◌≤◌, ◌<◌}
 use mathlib.Core.Path.{◌≡◌, refl, sym, ap}
 use native.Mathlib.Omega.{arith}

@@ -1,11 +1,11 @@
 -- `crew_at_work::pass_idle` meets its contract.
--- the turn names one of sixteen
 use Rattle.std.proofs.Common.{◌-◌, ◌<◌, length, get_or, arith, rules}
 use Rattle.crew_at_work.specs.Idle.{IdleTo, idle_more}
 use Rattle.std.proofs.Common.{rules}
 use Rattle.crew_at_work.proofs.pass_idle.Goals as goal
 use Rattle.crew_at_work.proofs.pass_idle.Goals.{In-loop-j}
 
+-- the turn names one of sixteen
 few : (c : In-loop-j) → get_or c.args.turns.now c.loop-j.j 0 < 16
 few c = c.requires.1 _ c.loop-j-test.true
 

@@ -1,5 +1,4 @@
 -- `crew_at_work::pass_idle` meets its contract.
--- the turn names one of sixteen
 use Rattle.std.proofs.Common.{◌-◌, ◌<◌, length, get_or, arith, rules}
 use Rattle.crew_at_work.specs.Idle.{IdleTo, idle_more}
 use Rattle.crew_at_work.proofs.pass_idle.Given as goal

@@ -1,7 +1,4 @@
 -- `crew_at_work::work_turns` meets its contract.
--- the member whose turn it is: it is named, one of sixteen, its list begins where `starts` says, and it wants few cells
--- what it has made and what it has left
--- where it moves, and its lowest cell
 use Rattle.std.proofs.Common.{◌≡◌, ◌+◌, ◌-◌, ◌*◌, ◌<◌, ◌≤◌, length, get_or, replicate, sym, refl, ap, arith, rules}
 use Rattle.model.specs.Crew.{adds, moves_of, start_of, crew_start}
 use Rattle.laws.specs.Crew.{start_fits}
@@ -15,6 +12,7 @@ use Rattle.std.proofs.Common.{rules}
 use Rattle.crew_at_work.proofs.work_turns.Goals as goal
 use Rattle.crew_at_work.proofs.work_turns.Goals.{After-cell_of-cell, In-loop-i}
 
+-- the member whose turn it is: it is named, one of sixteen, its list begins where `starts` says, and it wants few cells
 named : (c : In-loop-i) → let a = c.args in get_or a.turns.now c.loop-i.i 0 < length a.counts.now
 named c = c.requires.0.named _ c.loop-i-test.true
 
@@ -31,6 +29,7 @@ begins c = c.requires.1.0.begins _ (named c)
 wants_few : (c : In-loop-i) → let a = c.args in get_or a.counts.now (get_or a.turns.now c.loop-i.i 0) 0 ≤ 64
 wants_few c = c.requires.0.limits.each_few _
 
+-- what it has made and what it has left
 together : (c : In-loop-i)
     → let a = c.args in let l = c.loop-i in let m = get_or a.turns.now l.i 0 in
     get_or l.invariant.run.made m 0 + get_or l.left m 0 ≡ moves_of adds (get_or a.counts.now m 0)
@@ -52,6 +51,7 @@ together_there : (c : After-cell_of-cell)
     get_or l.invariant.run.made m 0 + get_or l.left m 0 ≡ moves_of adds (get_or a.counts.now m 0)
 together_there c = c.loop-i.invariant.run.parted.together _ (few_there c)
 
+-- where it moves, and its lowest cell
 unfinished : (c : After-cell_of-cell)
     → let a = c.args in let l = c.loop-i in let m = get_or a.turns.now l.i 0 in
     Unfinished adds a.head.headers a.head.buckets a.health.now a.counts.now a.cells.now a.turns.now (crew_start a.head a.table.now a.counters.now) l.next l.table l.left l.moving l.i l.counters l.noted (3 * get_or a.counts.now m 0 - get_or l.left m 0) (get_or a.starts.now m 0) (work_place_of (get_or a.starts.now m 0) (3 * get_or a.counts.now m 0 - get_or l.left m 0) (get_or a.counts.now m 0))

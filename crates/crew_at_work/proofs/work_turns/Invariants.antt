@@ -1,7 +1,4 @@
 -- `crew_at_work::work_turns` meets its contract.
--- the member whose turn it is: it is named, one of sixteen, its list begins where `starts` says, and it wants few cells
--- what it has made and what it has left
--- where it moves, and its lowest cell
 use Rattle.std.proofs.Common.{◌≡◌, ◌+◌, ◌-◌, ◌*◌, ◌<◌, ◌≤◌, length, get_or, replicate, sym, refl, ap, arith, rules}
 use Rattle.model.specs.Crew.{adds, moves_of, start_of, crew_start}
 use Rattle.laws.specs.Crew.{start_fits}

@@ -1,5 +1,4 @@
 -- `salvage::list_cell` meets its contract.
--- its bit is not 0
 use native.Mathlib.Omega.{arith}
 use mathlib.Core.Path.{ap, sym, ◌∙◌}
 use Prim.Native.Nat.{ℕ}
@@ -10,6 +9,7 @@ use Rattle.salvage.specs.Laws.{used_none, used_one, used_laid}
 use Rattle.salvage.proofs.list_cell.Goals as goal
 use Rattle.salvage.proofs.list_cell.Goals.{Else-bit_at-eq0}
 
+-- its bit is not 0
 used : (c : Else-bit_at-eq0) → let a = c.args in bit_at a.table.now a.cell ≢ 0
 used c = λ e. c.if-bit_at-eq0.false (c.bit_at.ensures ∙ e)
 

@@ -1,6 +1,4 @@
 -- `skid::pressure` meets its contract. A pattern above the infinity's is a NaN's, whatever its sign.
--- there is one NaN
--- what the code's test says of what is read
 use mathlib.Core.Path.{◌≡◌, refl, sym, ap, ◌∙◌, subst}
 use Prim.Native.Nat.{ℕ, ◌%◌}
 use mathlib.Core.Bool.{Bool, true, false, not}
@@ -11,12 +9,14 @@ use borrow.Author.Tests.{le-ltb, lt-ltb}
 use Rattle.setpoint.specs.declared.Setpoint.TheVariants.{Pressure}
 use Rattle.skid.proofs.pressure.Goals as goal
 
+-- there is one NaN
 the_nan : (x : Float) → is_nan x ≡ true → nan ≡ x
 unfolding is_nan
 the_nan nan e = refl
 the_nan (inf s) e = let z : false ≡ true = e in cc
 the_nan (fin s m p) e = let z : false ≡ true = e in cc
 
+-- what the code's test says of what is read
 is_nan_lem : (w : ℕ) (b : Bool) → ltb 2139095040 (w % 2147483648) ≡ b → is_nan (of_bits binary32 w) ≡ b
 is_nan_lem w b e = sym (nan_bits_is binary32 w) ∙ nan_bits_above binary32 w ∙ e
 
