@@ -112,10 +112,10 @@ noticed 1 'earlier boot: none, WRONG' kernel.c 's/^    paper.boot++; .*/    if (
 noticed 1 'WRONG' kernel.c '/^static struct skid_result on_paper/,/^}/s/^    write_paper();//'
 noticed 1 'SSE registers lost .*WRONG' machine.c '/fxrstor64/d'
 noticed 1 'never used: none, WRONG' demo.h 's/STACK = 8192/STACK = 6144/'
-# without its own stack the interrupt writes over what the library keeps below the stack pointer: the processor cannot go on, and the
-# kernel says so
+# without its own stack the interrupt writes over what the library keeps below the stack pointer. What comes of it is for the compiler's
+# code to say: with that of 0.18.2 the processor could not go on (status 3), with this one counts are wrong, and no tick is seen inside
 # shellcheck disable=SC2016
-noticed 3 'A TRAP: the processor could not go on' boot.S 's/^    movl \$1, %edx$/    movl $0, %edx/'
+noticed 1 'Ticks of the timer inside a call of the library: none, WRONG' boot.S 's/^    movl \$1, %edx$/    movl $0, %edx/'
 noticed 1 'Ticks of the timer inside a call of the library: none, WRONG' machine.c 's/taken_inside += is_inside &&/taken_inside += is_inside \&\& f->rsp == 0 \&\&/'
 rm -f "$out/library.elf"
 echo "demo: $slips kernels with a slip, each noticed"

@@ -250,8 +250,8 @@ if [ -n "${PAGES:-}" ]; then
     read -r -a pages <<<"$PAGES"
 else
     pages=(README.md CONTRIBUTING.md CHANGELOG.md docs/*.md docs/changes/*.md)
-    # docs/PORT.md sets the names of the older kit beside today's
-    for at in "${!pages[@]}"; do [ "${pages[at]}" != docs/PORT.md ] || unset "pages[at]"; done
+    # docs/PORT.md and docs/DESIGN-PASS.md set older names beside today's
+    for at in "${!pages[@]}"; do [[ ${pages[at]} != docs/PORT.md && ${pages[at]} != docs/DESIGN-PASS.md ]] || unset "pages[at]"; done
 fi
 wrong=$(wrong_names "${pages[@]}")
 if [ -z "${PAGES:-}" ]; then

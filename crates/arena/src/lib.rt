@@ -11,9 +11,12 @@ ghost use Rattle.model.specs.Refusals.{first};
 ghost use Rattle.model.specs.Checks.{bad_shape, bad_health};
 ghost use Rattle.model.specs.Calls.{prepare_of, refused, replied};
 
-use types::{Answer, Check, Counts, Head, Refusal, Reply, State};
+use types::{Answer, Counts, Head, Refusal, Reply, State};
 
 // Bit, owner and waiters of a cell.
+// (d) That a cell lies in the table is asked by each part: a type that has it would hold the table, which C lends and
+// which the same parts write.
+#[tactic(auto, unfolding(model::specs::Arena::bit_at))]
 pub fn bit_at(table: &[u32], cell: u32) -> u32
     requires { 3 * cell + 2 < length table.now }
     ensures { result ≡ bit_at table.now cell }
@@ -21,6 +24,7 @@ pub fn bit_at(table: &[u32], cell: u32) -> u32
     table[3 * (cell as usize)]
 }
 
+#[tactic(auto, unfolding(model::specs::Arena::owner_at))]
 pub fn owner_at(table: &[u32], cell: u32) -> u32
     requires { 3 * cell + 2 < length table.now }
     ensures { result ≡ owner_at table.now cell }
@@ -28,6 +32,7 @@ pub fn owner_at(table: &[u32], cell: u32) -> u32
     table[3 * (cell as usize) + 1]
 }
 
+#[tactic(auto, unfolding(model::specs::Arena::waiters_at))]
 pub fn waiters_at(table: &[u32], cell: u32) -> u32
     requires { 3 * cell + 2 < length table.now }
     ensures { result ≡ waiters_at table.now cell }
@@ -36,6 +41,7 @@ pub fn waiters_at(table: &[u32], cell: u32) -> u32
 }
 
 // Another bit and owner for a cell; other waiters for a cell.
+#[tactic(auto, unfolding(model::specs::Arena::set_cell))]
 pub fn set_cell(table: &mut [u32], cell: u32, bit: u32, owner: u32)
     requires { 3 * cell + 2 < length table.old }
     ensures { table.new ≡ set_cell table.old cell bit owner }
@@ -53,6 +59,7 @@ pub fn release(table: &mut [u32], cell: u32)
     set_cell(table, cell, 0, 0)
 }
 
+#[tactic(auto, unfolding(model::specs::Arena::set_waiters))]
 pub fn set_waiters(table: &mut [u32], cell: u32, number: u32)
     requires { 3 * cell + 2 < length table.old }
     ensures { table.new ≡ set_waiters table.old cell number }
@@ -62,19 +69,17 @@ pub fn set_waiters(table: &mut [u32], cell: u32, number: u32)
 }
 
 // Whether a cell is free.
+#[tactic(auto, unfolding(model::specs::Arena::is_free))]
 pub fn is_free(table: &[u32], cell: u32) -> bool
     requires { 3 * cell + 2 < length table.now }
     ensures { result ≡ is_free (bit_at table.now cell) (owner_at table.now cell) }
 {
-    let b = bit_at(table, cell);
-    let o = owner_at(table, cell);
-    if b == 0 {
-        return o == 0;
-    }
-    false
+    bit_at(table, cell) == 0 && owner_at(table, cell) == 0
 }
 
 // What a bit and an owner say.
+
+#[tactic(auto, unfolding(model::specs::Arena::state_of, model::specs::Arena::is_free, model::specs::Arena::is_held))]
 pub fn state_of(next: u32, bit: u32, owner: u32) -> State
     ensures { result ≡ state_of next bit owner }
 {
@@ -97,6 +102,7 @@ pub fn state_of(next: u32, bit: u32, owner: u32) -> State
 }
 
 // A cell's state.
+#[tactic(auto, unfolding(model::specs::Arena::state_at))]
 pub fn state_at(next: u32, table: &[u32], cell: u32) -> State
     requires { 3 * cell + 2 < length table.now }
     ensures { result ≡ state_at next table.now cell }
@@ -107,19 +113,12 @@ pub fn state_at(next: u32, table: &[u32], cell: u32) -> State
 }
 
 // Whether a lease of the head's own boot number is live.
+#[tactic(auto, unfolding(model::specs::Arena::is_live))]
 pub fn is_live(next: u32, cells: u32, table: &[u32], cell: u32, serial: u32) -> bool
     requires { 3 * cells ≤ length table.now }
     ensures { result ≡ is_live next cells table.now (hold_of cell serial) }
 {
-    if cell < cells {
-        let s = state_at(next, table, cell);
-        return match s {
-            State::Free => false,
-            State::Held(owner) => owner == serial,
-            State::Damaged => false,
-        };
-    }
-    false
+    cell < cells && state_at(next, table, cell) == State::Held(serial)
 }
 
 // The results of calls without a script: only attempts can be other than 0.
@@ -145,42 +144,28 @@ pub fn refuse(head: Head, refusal: Refusal) -> Reply
 }
 
 // 1, of head, table and health: the first check of preparing, of every call with a script and of the crew.
-pub fn arena_fault(head: Head, table: &[u32], health: &[u8]) -> Check
+#[tactic(auto, unfolding(model::specs::Refusals::first))]
+pub fn arena_fault(head: Head, table: &[u32], health: &[u8]) -> Result<(), Refusal>
     ensures { result ≡ first (bad_shape head table.now ∷ bad_health head health.now ∷ []) }
 {
-    if head.shape_fits(table.len()) {
-        if head.health_fits(health.len()) {
-            return Check::Fine;
-        }
-        return Check::Fault(Refusal::BadShape);
-    }
-    Check::Fault(Refusal::BadShape)
-}
-
-fn zero_words(words: &mut [u32])
-    ensures { words.new ≡ replicate (length words.old) 0 }
-{
-    let mut i = 0;
-    while i < words.len() {
-        words[i] = 0;
-        i += 1;
+    if head.shape_fits(table.len()) && head.health_fits(health.len()) {
+        Ok(())
+    } else {
+        Err(Refusal::BadShape)
     }
 }
 
-// Every byte 0: preparing the health here, and the book of setpoints in `book`.
+// Every byte 0.
 pub fn zero_bytes(bytes: &mut [u8])
     ensures { bytes.new ≡ replicate (length bytes.old) 0 }
 {
-    let mut i = 0;
-    while i < bytes.len() {
-        bytes[i] = 0;
-        i += 1;
-    }
+    bytes.fill(0)
 }
 
 // Sets every table word and health byte to 0, whatever stood there, and hands back a head with the boot number given
 // (any number is one). A head or a length that keeps no rule of the arena is refused with 1: no lent word changes, and
 // the head handed back is four zeros.
+#[tactic(auto, unfolding(model::specs::Calls::prepare_of, model::specs::Checks::prepare_rules))]
 pub fn prepare(
     headers: u32,
     buckets: u32,
@@ -204,11 +189,10 @@ pub fn prepare(
         next: 0,
         boot: 0,
     };
-    let check = arena_fault(head, table, health);
-    match check {
-        Check::Fault(refusal) => refuse(none, refusal),
-        Check::Fine => {
-            zero_words(table);
+    match arena_fault(head, table, health) {
+        Err(refusal) => refuse(none, refusal),
+        Ok(()) => {
+            table.fill(0);
             zero_bytes(health);
             reply(head, 0, Answer::Done)
         }

@@ -12,12 +12,12 @@ ghost use Rattle.book_rules.specs.Calls.{prepare_book_of, write_setpoint_of, lin
 ghost use Rattle.book_rules.specs.Calls.{read_setpoint_of};
 ghost use Rattle.book.specs.Model.{write_over_of, read_kept_of, Readable};
 
-use book_rules::{BookAnswer, BookCheck, BookRefusal};
-use setpoint::{Decoded, Setpoint};
+use book_rules::{BookAnswer, BookCheck, BookDone, BookRefusal};
+use setpoint::Setpoint;
 use types::{Head, Lease};
 
 // The last version. A slot that has reached it is written no more.
-const LAST_VERSION: u32 = 4294967295;
+const LAST_VERSION: u32 = u32::MAX;
 
 // Whether the head keeps the arena's rules: all that a preparation and a read are given of the arena.
 fn head_fits(head: Head) -> bool
@@ -25,10 +25,7 @@ fn head_fits(head: Head) -> bool
 {
     let h = head.headers;
     let b = head.buckets;
-    if 64 < h {
-        return false;
-    }
-    if 1024 < b {
+    if 64 < h || 1024 < b {
         return false;
     }
     head.shape_fits((3 * (h * b)) as usize)
@@ -39,11 +36,7 @@ fn slots(head: Head) -> usize
     requires { head_fits head ≡ true }
     ensures { result ≡ slots_of head }
 {
-    let cells = head.headers * head.buckets;
-    if cells < 64 {
-        return cells as usize;
-    }
-    64
+    (head.headers * head.buckets).min(64) as usize
 }
 
 // Shorter than its contents, or over the limit.
@@ -51,34 +44,28 @@ fn is_bad_book(n: usize, size: usize) -> bool
     requires { n ≤ 64 }
     ensures { result ≡ is_bad_book n size }
 {
-    if size < 32 * n {
-        return true;
-    }
-    32768 < size
+    size < 32 * n || 32768 < size
 }
 
 fn is_bad_slot(n: usize, size: usize, slot: usize) -> bool
     requires { n ≤ 64 }
     ensures { result ≡ is_bad_slot n size slot }
 {
-    if is_bad_book(n, size) {
-        return true;
-    }
-    n <= slot
+    is_bad_book(n, size) || n <= slot
 }
 
 // Sets every byte of the book to 0, whatever stood there. Refused with 1 or BadSlot it changes no byte.
 pub fn prepare_book(head: Head, book: &mut [u8]) -> BookAnswer
     ensures { (result, book.new) ≡ prepare_book_of head book.old }
 {
-    if head_fits(head) {
-        if is_bad_book(slots(head), book.len()) {
-            return BookAnswer::Refused(BookRefusal::BadSlot);
-        }
-        arena::zero_bytes(book);
-        return BookAnswer::Done;
+    if !head_fits(head) {
+        return Err(BookRefusal::BadShape);
     }
-    BookAnswer::Refused(BookRefusal::BadShape)
+    if is_bad_book(slots(head), book.len()) {
+        return Err(BookRefusal::BadSlot);
+    }
+    book.fill(0);
+    Ok(BookDone::Done)
 }
 
 // ---- writing
@@ -88,11 +75,7 @@ fn is_holder(head: Head, table: &[u32], slot: u32, lease: Lease) -> bool
     requires { shape_fits head (length table.now) ≡ true }
     ensures { result ≡ is_holder head table.now slot (hold_in lease) }
 {
-    let cell = lease.cell;
-    if lease::is_live(head, table, cell, lease.serial) {
-        return cell == slot;
-    }
-    false
+    lease::is_live(head, table, lease.cell, lease.serial) && lease.cell == slot
 }
 
 // The checks of a write on what it is given: 1, BadSlot, 16, 12, NotFinite.
@@ -106,22 +89,22 @@ fn claim_check(
 ) -> BookCheck
     ensures { result ≡ first_fault (claim_rules head table.now size slot lease setpoint) }
 {
-    if head.shape_fits(table.len()) {
-        if is_bad_slot(slots(head), size, slot as usize) {
-            return BookCheck::Fault(BookRefusal::BadSlot);
-        }
-        if head.is_stale(lease) {
-            return BookCheck::Fault(BookRefusal::StaleBoot);
-        }
-        if is_holder(head, table, slot, lease) {
-            if setpoint::has_body(setpoint) {
-                return BookCheck::Fine;
-            }
-            return BookCheck::Fault(BookRefusal::NotFinite);
-        }
-        return BookCheck::Fault(BookRefusal::NotHeld);
+    if !head.shape_fits(table.len()) {
+        return Err(BookRefusal::BadShape);
     }
-    BookCheck::Fault(BookRefusal::BadShape)
+    if is_bad_slot(slots(head), size, slot as usize) {
+        return Err(BookRefusal::BadSlot);
+    }
+    if head.is_stale(lease) {
+        return Err(BookRefusal::StaleBoot);
+    }
+    if !is_holder(head, table, slot, lease) {
+        return Err(BookRefusal::NotHeld);
+    }
+    if !setpoint.has_body() {
+        return Err(BookRefusal::NotFinite);
+    }
+    Ok(())
 }
 
 // Over what the book says: refused, or the oldest dropped and one version more. One run of marks serves the test of the
@@ -136,21 +119,21 @@ fn write_over(n: usize, book: &mut [u8], slot: usize, s: Setpoint) -> BookAnswer
     ensures { (result, book.new) ≡ write_over_of n book.old slot s }
 {
     let mut marks = [0; 6550];
-    if book_sound::scan(n, book, &mut marks) {
-        let newest = book_sound::version_at(book, 4 * slot);
-        if newest == LAST_VERSION {
-            return BookAnswer::Refused(BookRefusal::VersionsSpent);
-        }
-        let kept = book_enter::staying(n, book, slot);
-        if book.len() < 32 * n + 5 * kept + 5 {
-            return BookAnswer::Refused(BookRefusal::BookFull);
-        }
-        book_enter::unmark_oldest(n, book, slot, &mut marks);
-        book_enter::drop_oldest(book, slot);
-        let moved = book_enter::put_over(n, kept, book, &mut marks, slot, s, newest + 1);
-        return BookAnswer::Written(newest + 1, moved);
+    if !book_sound::scan(n, book, &mut marks) {
+        return Err(BookRefusal::DamagedBook);
     }
-    BookAnswer::Refused(BookRefusal::DamagedBook)
+    let newest = book_sound::version_at(book, 4 * slot);
+    if newest == LAST_VERSION {
+        return Err(BookRefusal::VersionsSpent);
+    }
+    let kept = book_enter::staying(n, book, slot);
+    if book.len() < 32 * n + 5 * kept + 5 {
+        return Err(BookRefusal::BookFull);
+    }
+    book_enter::unmark_oldest(n, book, slot, &mut marks);
+    book_enter::drop_oldest(book, slot);
+    let moved = book_enter::put_over(n, kept, book, &mut marks, slot, s, newest + 1);
+    Ok(BookDone::Written(newest + 1, moved))
 }
 
 // Writes a setpoint to a slot by a live lease on its cell, and answers the new version and the bytes moved. The slot
@@ -168,11 +151,8 @@ pub fn write_setpoint(
     ensures { (result, book.new)
         ≡ write_setpoint_of head table.now book.old slot lease setpoint }
 {
-    let check = claim_check(head, table, book.len(), slot, lease, setpoint);
-    match check {
-        BookCheck::Fault(refusal) => BookAnswer::Refused(refusal),
-        BookCheck::Fine => write_over(slots(head), book, slot as usize, setpoint),
-    }
+    claim_check(head, table, book.len(), slot, lease, setpoint)?;
+    write_over(slots(head), book, slot as usize, setpoint)
 }
 
 // ---- reading
@@ -181,17 +161,17 @@ pub fn write_setpoint(
 fn open_check(head: Head, book: &[u8], slot: u32) -> BookCheck
     ensures { result ≡ first_fault (open_rules head book.now slot) }
 {
-    if head_fits(head) {
-        let n = slots(head);
-        if is_bad_slot(n, book.len(), slot as usize) {
-            return BookCheck::Fault(BookRefusal::BadSlot);
-        }
-        if book_sound::is_sound(n, book) {
-            return BookCheck::Fine;
-        }
-        return BookCheck::Fault(BookRefusal::DamagedBook);
+    if !head_fits(head) {
+        return Err(BookRefusal::BadShape);
     }
-    BookCheck::Fault(BookRefusal::BadShape)
+    let n = slots(head);
+    if is_bad_slot(n, book.len(), slot as usize) {
+        return Err(BookRefusal::BadSlot);
+    }
+    if !book_sound::is_sound(n, book) {
+        return Err(BookRefusal::DamagedBook);
+    }
+    Ok(())
 }
 
 // What line k holds, with its version.
@@ -200,11 +180,11 @@ fn line_read(book: &[u8], k: usize, version: u32) -> BookAnswer
     requires k_in_bounds_2 { place_at book.now k + 5 ≤ length book.now }
     ensures { result ≡ line_read book.now k version }
 {
-    let found = book_sound::setting_at(book, book_sound::place_at(book, k) as usize);
-    match found {
-        Decoded::Setting(s) => BookAnswer::Setting(s, version),
-        Decoded::Damaged => BookAnswer::Refused(BookRefusal::DamagedBook),
-    }
+    let place = book_sound::place_at(book, k) as usize;
+    let Some(s) = book_sound::setting_at(book, place) else {
+        return Err(BookRefusal::DamagedBook);
+    };
+    Ok(BookDone::Setting(s, version))
 }
 
 // A version of a slot, of a book that is open to reads; NeverWritten if it is not kept.
@@ -214,17 +194,10 @@ fn read_kept(book: &[u8], slot: usize, version: u32) -> BookAnswer
     ensures { result ≡ read_kept_of book.now slot version }
 {
     let newest = book_sound::version_at(book, 4 * slot);
-    if version == 0 {
-        return BookAnswer::Refused(BookRefusal::NeverWritten);
+    if version == 0 || newest < version || 4 <= newest - version {
+        return Err(BookRefusal::NeverWritten);
     }
-    if newest < version {
-        return BookAnswer::Refused(BookRefusal::NeverWritten);
-    }
-    let age = newest - version;
-    if 4 <= age {
-        return BookAnswer::Refused(BookRefusal::NeverWritten);
-    }
-    line_read(book, 4 * slot + age as usize, version)
+    line_read(book, 4 * slot + (newest - version) as usize, version)
 }
 
 // A version of a slot: its setpoint. NeverWritten for one that the slot does not keep: 0, not yet written, or older
@@ -232,23 +205,15 @@ fn read_kept(book: &[u8], slot: usize, version: u32) -> BookAnswer
 pub fn read_version(head: Head, book: &[u8], slot: u32, version: u32) -> BookAnswer
     ensures { result ≡ read_version_of head book.now slot version }
 {
-    let check = open_check(head, book, slot);
-    match check {
-        BookCheck::Fault(refusal) => BookAnswer::Refused(refusal),
-        BookCheck::Fine => read_kept(book, slot as usize, version),
-    }
+    open_check(head, book, slot)?;
+    read_kept(book, slot as usize, version)
 }
 
 // The newest version of a slot: its setpoint and its number. NeverWritten where there is none.
 pub fn read_setpoint(head: Head, book: &[u8], slot: u32) -> BookAnswer
     ensures { result ≡ read_setpoint_of head book.now slot }
 {
-    let check = open_check(head, book, slot);
-    match check {
-        BookCheck::Fault(refusal) => BookAnswer::Refused(refusal),
-        BookCheck::Fine => {
-            let newest = book_sound::version_at(book, 4 * slot as usize);
-            read_kept(book, slot as usize, newest)
-        }
-    }
+    open_check(head, book, slot)?;
+    let newest = book_sound::version_at(book, 4 * slot as usize);
+    read_kept(book, slot as usize, newest)
 }

@@ -1,11 +1,11 @@
 -- The lines of a book whose bodies have slid: each used line gets its body's new place, and the bytes moved are counted. The ranks of the
 -- bodies stand by cell, as the walk of `Slide` leaves them.
 use Prim.Native.Nat.{ℕ, zero, suc, ◌+◌, ◌*◌, ◌≤◌, ◌<◌}
-use Rattle.std.specs.Prelude.{◌≡◌, Bool, ◌&&◌, eqb, length, get_or, set, if◌then◌else◌}
+use Rattle.std.specs.Prelude.{◌≡◌, Bool, ◌&&◌, eqb, length, get_or, if◌then◌else◌}
 use Rattle.std.proofs.Math.Path.{refl, ap}
 use Rattle.std.proofs.Common.{◌∙◌}
 use Rattle.std.proofs.Math.Logic.{inr}
-use mathlib.Core.List.{List, [], ◌∷◌}
+use mathlib.Core.List.{List, []}
 use Rattle.std.proofs.Math.Bool.{true, false, not}
 use native.Mathlib.Omega.{arith}
 use Rattle.std.proofs.Math.Seq.{sets}
@@ -126,9 +126,6 @@ module _ (n : ℕ) (ranks b : List ℕ) where
   unfolding counted_of
   counted_small m = omega (arith, count_most m (is_moved n ranks b))
 
-  pub placed_size : (d : List ℕ) (k : ℕ) → d ≡ placed_of n ranks b k → length d ≡ length b
-  placed_size d k e = ap length e ∙ placed_long k
-
   pub placed_lies : (d : List ℕ) (k : ℕ) → d ≡ placed_of n ranks b k → Lying n b → k < lines_of n → LineLies n d k
   placed_lies d k e lies l =
       let a = placed_alike k k (omega arith) in
@@ -147,10 +144,6 @@ done_small n ranks b k o e = omega (arith, ap (λ (x : ℕ × List ℕ). x.0) e,
     five : (t : Bool) → (if t then 5 else 0) ≤ 5
     five true = omega arith
     five false = omega arith
-
--- two stores
-pub two_stores : (d : List ℕ) (p x y : ℕ) → set (set d p x) (p + 1) y ≡ sets d p (x ∷ y ∷ [])
-two_stores d p x y = let e : p + 1 ≡ suc p = omega arith in ap (λ (i : ℕ). set (set d p x) i y) e
 
 -- ---- after the slide it is the compaction
 

@@ -4,13 +4,16 @@
 use Prim.Native.Nat.{ℕ, zero, suc, ◌+◌, ◌*◌, ◌-◌, ◌%◌, ◌≤◌, ◌<◌}
 use Rattle.std.proofs.Math.Path.{◌≡◌, refl, sym, ap}
 use Rattle.std.proofs.Common.{◌∙◌, inl, inr, ext_get_or, get_or-set_other}
-use Rattle.std.specs.Prelude.{◌≢◌, ◌⊎◌, List, [], ◌∷◌, Bool, ◌&&◌, eqb, length, set, replicate, if◌then◌else◌}
+use Rattle.std.specs.Prelude.{◌≢◌, ◌⊎◌, List, ◌++◌, Bool, ◌&&◌, eqb, length, set, replicate, take, drop, if◌then◌else◌}
 use Rattle.std.proofs.Math.Bool.{true, false}
 use native.Mathlib.Omega.{arith}
 use Rattle.std.proofs.Math.Decide.{ℕ_discrete, dec_lt}
 use Rattle.std.proofs.Math.Dec.{ltb}
 use Rattle.std.proofs.Math.ListN.{get_or, get_or-replicate, length-set}
-use Rattle.std.proofs.lemmas.List.Edits.{sets}
+use Rattle.std.proofs.lemmas.List.Edits.{sets, sets-eq}
+use Rattle.std.proofs.lemmas.List.{take-append-drop, length-take-le, length-drop, length-replicate}
+use Rattle.std.proofs.lemmas.Slice.{take-put_mid, drop-put_mid}
+use borrow.Rule.Slice.PartMut.{put_mid}
 use Rattle.std.proofs.Math.Seq.{length-sets, get_or-set_same}
 use borrow.Author.Tests.{eqb-true, eqb-false, lt-ltb, le-ltb}
 use Rattle.choice.specs.Pick.{and_false}
@@ -450,9 +453,6 @@ pub slide_end : (n : ℕ) (marks : List ℕ) (cells c q : ℕ) (d : List ℕ) �
 unfolding slide_of
 slide_end n marks cells c q d l = let e : cells - c ≡ 0 = omega arith in rw e
 
-pub slide_start : (n : ℕ) (marks : List ℕ) (cells q : ℕ) (d : List ℕ) → slide_of n marks (cells - 0) 0 q d ≡ slide_of n marks cells 0 q d
-slide_start n marks cells q d = let e : cells - 0 ≡ cells = omega arith in ap (λ (x : ℕ). slide_of n marks x 0 q d) e
-
 pub ranks_turn : (marks : List ℕ) (cells c r : ℕ) (ranks : List ℕ) → c < cells
     → ranks_of marks (cells - c) c r ranks
     ≡ (if eqb (get_or marks (c + 1) 0) 0 then ranks_of marks (cells - (c + 1)) (c + 1) r ranks
@@ -464,26 +464,19 @@ pub ranks_end : (marks : List ℕ) (cells c r : ℕ) (ranks : List ℕ) → cell
 unfolding ranks_of
 ranks_end marks cells c r ranks l = let e : cells - c ≡ 0 = omega arith in rw e
 
-pub ranks_start : (marks : List ℕ) (cells r : ℕ) (ranks : List ℕ) → ranks_of marks (cells - 0) 0 r ranks ≡ ranks_of marks cells 0 r ranks
-ranks_start marks cells r ranks = let e : cells - 0 ≡ cells = omega arith in ap (λ (x : ℕ). ranks_of marks x 0 r ranks) e
+-- ---- a write to a part of a slice, as stores: bytes copied to it; zeros
 
--- five stores; ten
-five_stores : (d : List ℕ) (p x0 x1 x2 x3 x4 : ℕ)
-    → set (set (set (set (set d p x0) (p + 1) x1) (p + 2) x2) (p + 3) x3) (p + 4) x4 ≡ sets d p (x0 ∷ x1 ∷ x2 ∷ x3 ∷ x4 ∷ [])
-five_stores d p x0 x1 x2 x3 x4 =
-    let e1 : p + 1 ≡ suc p = omega arith in
-    let e2 : p + 2 ≡ suc (suc p) = omega arith in
-    let e3 : p + 3 ≡ suc (suc (suc p)) = omega arith in
-    let e4 : p + 4 ≡ suc (suc (suc (suc p))) = omega arith in
-    ap (λ (i : ℕ). set (set (set (set (set d p x0) i x1) (p + 2) x2) (p + 3) x3) (p + 4) x4) e1
-    ∙ ap (λ (i : ℕ). set (set (set (set (set d p x0) (suc p) x1) i x2) (p + 3) x3) (p + 4) x4) e2
-    ∙ ap (λ (i : ℕ). set (set (set (set (set d p x0) (suc p) x1) (suc (suc p)) x2) i x3) (p + 4) x4) e3
-    ∙ ap (λ (i : ℕ). set (set (set (set (set d p x0) (suc p) x1) (suc (suc p)) x2) (suc (suc (suc p))) x3) i x4) e4
+pub part_copied : (b ys vs : List ℕ) (at n k : ℕ) → ys ≡ vs → length vs ≡ n → k ≡ n → at + n ≤ length b → put_mid at k b ys ≡ sets b at vs
+part_copied b ys vs at n k same size part room =
+    let till = at + length vs in
+    let made = put_mid at n b vs in
+    let front : take till made ≡ take at b ++ vs = take-put_mid at n b vs till refl (omega arith) in
+    let rest : drop till made ≡ drop till b = drop-put_mid at n b vs till (omega arith) (omega arith) size in
+    let whole : take till made ++ drop till made ≡ made = take-append-drop till made in
+    rw (part, same) (sym (rw (front, rest) at whole) ∙ sym (sets-eq vs b at (omega arith)))
 
-pub moved_stores : (d : List ℕ) (p q : ℕ)
-    → set (set (set (set (set (set (set (set (set (set d p 0) (p + 1) 0) (p + 2) 0) (p + 3) 0) (p + 4) 0) q (get_or d p 0)) (q + 1) (get_or d (p + 1) 0)) (q + 2) (get_or d (p + 2) 0)) (q + 3) (get_or d (p + 3) 0)) (q + 4) (get_or d (p + 4) 0)
-    ≡ moved_to d p q
-unfolding moved_to five_at
-moved_stores d p q =
-    five_stores (set (set (set (set (set d p 0) (p + 1) 0) (p + 2) 0) (p + 3) 0) (p + 4) 0) q (get_or d p 0) (get_or d (p + 1) 0) (get_or d (p + 2) 0) (get_or d (p + 3) 0) (get_or d (p + 4) 0)
-    ∙ ap (λ (x : List ℕ). sets x q (get_or d p 0 ∷ get_or d (p + 1) 0 ∷ get_or d (p + 2) 0 ∷ get_or d (p + 3) 0 ∷ get_or d (p + 4) 0 ∷ [])) (five_stores d p 0 0 0 0 0)
+pub part_filled : (b ys : List ℕ) (at n k : ℕ) → ys ≡ replicate (length (take k (drop at b))) 0 → k ≡ n → at + n ≤ length b
+    → put_mid at k b ys ≡ sets b at (replicate n 0)
+part_filled b ys at n k zeros part room =
+    let size : length (take k (drop at b)) ≡ n = length-take-le k (drop at b) (omega (arith, length-drop at b)) ∙ part in
+    part_copied b ys (replicate n 0) at n k (zeros ∙ ap (λ (m : ℕ). replicate m 0) size) (length-replicate n 0) part room

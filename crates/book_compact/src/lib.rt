@@ -17,25 +17,14 @@ fn move_body(book: &mut [u8], p: usize, q: usize)
     requires q_le_p { q ≤ p }
     ensures { book.new ≡ moved_to book.old p q }
 {
-    let a = book[p];
-    let b = book[p + 1];
-    let c = book[p + 2];
-    let d = book[p + 3];
-    let e = book[p + 4];
-    book[p] = 0;
-    book[p + 1] = 0;
-    book[p + 2] = 0;
-    book[p + 3] = 0;
-    book[p + 4] = 0;
-    book[q] = a;
-    book[q + 1] = b;
-    book[q + 2] = c;
-    book[q + 3] = d;
-    book[q + 4] = e;
+    let body = [book[p], book[p + 1], book[p + 2], book[p + 3], book[p + 4]];
+    book[p..p + 5].fill(0);
+    book[q..q + 5].copy_from_slice(&body);
 }
 
 // The bodies of the marked cells slide to the front, in the order of their places. The rank of each takes the place of
 // its mark: a book has at most 256 bodies, so a rank fits a byte.
+// (a) Marks and ranks share their bytes: memory is fixed (`scan` of `book_sound`).
 fn walk(n: usize, cells: usize, book: &mut [u8], marks: &mut [u8])
     requires n_bound { n ≤ 64 }
     requires cells_bound { cells ≤ 6548 }
@@ -44,18 +33,14 @@ fn walk(n: usize, cells: usize, book: &mut [u8], marks: &mut [u8])
     ensures { (book.new, marks.new)
         ≡ walk_of n cells book.old marks.old }
 {
-    let mut c = 0;
     let mut rank = 0;
-    while c < cells {
-        let mark = marks[c + 1] as usize;
-        if mark == 0 {
-            c += 1;
-            continue;
+    for c in 0..cells {
+        let mark = usize::from(marks[c + 1]);
+        if mark != 0 {
+            marks[c + 1] = (rank % 256) as u8;
+            move_body(book, 32 * n + 5 * c + (mark - 1), 32 * n + 5 * rank);
+            rank += 1;
         }
-        marks[c + 1] = (rank % 256) as u8;
-        move_body(book, 32 * n + 5 * c + (mark - 1), 32 * n + 5 * rank);
-        rank += 1;
-        c += 1;
     }
 }
 
@@ -67,17 +52,14 @@ fn put_place(n: usize, ranks: &[u8], book: &mut [u8], k: usize) -> u32
     requires in_bounds { 6550 ≤ length ranks.now }
     ensures { (result, book.new) ≡ put_place_of n ranks.now book.old k }
 {
-    if book_sound::is_kept(book, k) {
-        let old = book_sound::place_at(book, k);
-        let place = 32 * n as u32 + 5 * ranks[(old as usize - 32 * n) / 5 + 1] as u32;
-        book[8 * k] = (place % 256) as u8;
-        book[8 * k + 1] = (place / 256) as u8;
-        if place == old {
-            return 0;
-        }
-        return 5;
+    if !book_sound::is_kept(book, k) {
+        return 0;
     }
-    0
+    let old = book_sound::place_at(book, k);
+    let rank = ranks[(old as usize - 32 * n) / 5 + 1];
+    let place = 32 * n as u32 + 5 * u32::from(rank);
+    book[8 * k..8 * k + 2].copy_from_slice(&(place as u16).to_le_bytes());
+    if place == old { 0 } else { 5 }
 }
 
 // Every line. Answers the bytes moved.
@@ -89,10 +71,8 @@ fn put_places(n: usize, ranks: &[u8], book: &mut [u8]) -> u32
     ensures { (result, book.new) ≡ put_places_of n ranks.now book.old }
 {
     let mut moved = 0;
-    let mut k = 0;
-    while k < 4 * n {
+    for k in 0..4 * n {
         moved += put_place(n, ranks, book, k);
-        k += 1;
     }
     moved
 }

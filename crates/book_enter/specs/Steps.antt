@@ -1,13 +1,16 @@
 -- Laws for the parts of a write: counts and the end of the last body line by line, four lines put one behind the other.
-use Prim.Native.Nat.{ℕ, suc, ◌+◌, ◌*◌, ◌≤◌, ◌<◌, max}
+use Prim.Native.Nat.{ℕ, suc, ◌+◌, ◌-◌, ◌*◌, ◌≤◌, ◌<◌, max}
 use Rattle.std.specs.Prelude.{◌≡◌, refl, ◌≢◌, Bool, length, get_or, if◌then◌else◌}
 use Rattle.std.proofs.Common.{sym, ◌∙◌, inl, inr, arith, get_or-set_same}
 use Rattle.std.proofs.Math.Path.{ap}
 use mathlib.Core.List.{List, [], ◌∷◌, ◌++◌}
 use Rattle.std.proofs.Math.Bool.{true, false}
 use Rattle.std.proofs.Math.Decide.{ℕ_discrete}
-use Rattle.std.proofs.Math.ListN.{set, length-set}
-use Rattle.std.proofs.lemmas.List.Edits.{sets}
+use Rattle.std.proofs.Math.ListN.{set, length-set, take, drop}
+use Rattle.std.specs.List.{copy_within}
+use Rattle.std.proofs.Math.Seq.{paste, take-add, drop-cons}
+use Rattle.std.proofs.lemmas.List.Edits.{sets, sets-eq, take-paste, drop-paste}
+use Rattle.std.proofs.lemmas.List.{set_comm, take-append-drop, drop-drop, length-drop, length-take-le}
 use Rattle.std.proofs.Math.Seq.{get_or-set_other}
 use borrow.Author.Tests.{lt-ltb, le-ltb}
 use Rattle.book_rules.specs.Layout.{lines_of, front_of, line_at, place_at, version_at, is_kept, line_of, is_sound}
@@ -18,7 +21,6 @@ use Rattle.book_rules.proofs.Sound.{is_kept_lem, is_unkept, sound_is}
 use Rattle.book_rules.proofs.Dropped.{dropped}
 use Rattle.book_rules.specs.Wrote.{staying_of, is_staying}
 use Rattle.book_rules.proofs.Wrote.{staying_is}
-use Rattle.book_rules.proofs.Appended.{line_long}
 use Rattle.book_sound.specs.Scan.{cell_of, offset_of, Marked}
 use Rattle.book_compact.specs.Lines.{compacted_of}
 use Rattle.setpoint.specs.Codec.{body_of}
@@ -103,23 +105,72 @@ sets_append b p (x ∷ xs) ys =
 unfoldable pub shift_of : List ℕ → ℕ → List ℕ → List ℕ
 shift_of b at line = sets b at (line ++ (line_at b at ++ (line_at b (at + 8) ++ line_at b (at + 16))))
 
-pub shift_is : (b : List ℕ) (at : ℕ) (line : List ℕ) → length line ≡ 8
-    → sets (sets (sets (sets b at line) (at + 8) (line_at b at)) (at + 16) (line_at b (at + 8))) (at + 24) (line_at b (at + 16)) ≡ shift_of b at line
+-- stores that share no place may be swapped
+set_swap : (b ys : List ℕ) (p q x : ℕ) → p < q → set (sets b q ys) p x ≡ sets (set b p x) q ys
+set_swap b [] p q x h = refl
+set_swap b (y ∷ ys) p q x h = set_swap (set b q y) ys p (suc q) x (omega arith) ∙ ap (λ (l : List ℕ). sets l (suc q) ys) (set_comm b q p y x (omega arith))
+
+sets_swap : (xs b ys : List ℕ) (p q : ℕ) → p + length xs ≤ q → sets (sets b q ys) p xs ≡ sets (sets b p xs) q ys
+sets_swap [] b ys p q h = refl
+sets_swap (x ∷ xs) b ys p q h =
+    ap (λ (l : List ℕ). sets l (suc p) xs) (set_swap b ys p q x (omega arith)) ∙ sets_swap xs (set b p x) ys (suc p) q (omega arith)
+
+-- a line's bytes, as a part of the book; three lines
+byte_is : (b : List ℕ) (p q n : ℕ) → q ≡ p + 1 → p < length b → take (suc n) (drop p b) ≡ get_or b p 0 ∷ take n (drop q b)
+byte_is b p q n e h = let next : suc p ≡ q = omega arith in rw (drop-cons b p 0 h, next)
+
+line_is : (b : List ℕ) (p : ℕ) → p + 8 ≤ length b → take 8 (drop p b) ≡ line_at b p
+unfolding line_at
+line_is b p h =
+    rw (
+      byte_is b p (p + 1) 7 refl (omega arith),
+      byte_is b (p + 1) (p + 2) 6 (omega arith) (omega arith),
+      byte_is b (p + 2) (p + 3) 5 (omega arith) (omega arith),
+      byte_is b (p + 3) (p + 4) 4 (omega arith) (omega arith),
+      byte_is b (p + 4) (p + 5) 3 (omega arith) (omega arith),
+      byte_is b (p + 5) (p + 6) 2 (omega arith) (omega arith),
+      byte_is b (p + 6) (p + 7) 1 (omega arith) (omega arith),
+      byte_is b (p + 7) (p + 8) 0 (omega arith) (omega arith),
+    )
+
+lines_are : (b : List ℕ) (p : ℕ) → p + 24 ≤ length b → take 24 (drop p b) ≡ line_at b p ++ (line_at b (p + 8) ++ line_at b (p + 16))
+lines_are b p h =
+    let e : p + 8 + 8 ≡ p + 16 = omega arith in
+    rw (
+      take-add 8 16 (drop p b),
+      drop-drop 8 p b,
+      take-add 8 8 (drop (p + 8) b),
+      drop-drop 8 (p + 8) b,
+      e,
+      line_is b p (omega arith),
+      line_is b (p + 8) (omega arith),
+      line_is b (p + 16) (omega arith),
+    )
+
+copied_is : (b : List ℕ) (p : ℕ) → p + 32 ≤ length b → copy_within b p (p + 24) (p + 8) ≡ sets b (p + 8) (take 24 (drop p b))
+copied_is b p h =
+    let s = drop p b in
+    let n : p + 24 - p ≡ 24 = omega arith in
+    let long : 24 ≤ length s = omega (arith, length-drop p b) in
+    let size : length (take 24 s) ≡ 24 = length-take-le 24 s long in
+    let made = paste b (p + 8) s 24 in
+    let front : take (p + 8 + 24) made ≡ take (p + 8) b ++ take 24 s = take-paste b (p + 8) s 24 (omega arith) long in
+    let back : drop (p + 8 + 24) made ≡ drop (p + 8 + 24) b = drop-paste b (p + 8) s 24 (omega arith) long in
+    let whole : take (p + 8 + 24) made ++ drop (p + 8 + 24) made ≡ made = take-append-drop (p + 8 + 24) made in
+    let stored : sets b (p + 8) (take 24 s) ≡ take (p + 8) b ++ take 24 s ++ drop (p + 8 + length (take 24 s)) b = sets-eq (take 24 s) b (p + 8) (omega arith) in
+    rw n (sym (rw (front, back) at whole) ∙ sym (rw size at stored))
+
+-- three lines moved on, and a line put before them
+pub shift_copied : (b line : List ℕ) (at : ℕ) → length line ≡ 8 → at + 32 ≤ length b → sets (copy_within b at (at + 24) (at + 8)) at line ≡ shift_of b at line
 unfolding shift_of
-shift_is b at line e =
-    let x = line_at b at in
-    let y = line_at b (at + 8) in
-    let z = line_at b (at + 16) in
-    let p1 : at + length line ≡ at + 8 = omega arith in
-    let p2 : at + 8 + length x ≡ at + 16 = omega (arith, line_long b at) in
-    let p3 : at + 16 + length y ≡ at + 24 = omega (arith, line_long b (at + 8)) in
-    sym
-    (sets_append b at line (x ++ (y ++ z))
-    ∙ ap (λ (p : ℕ). sets (sets b at line) p (x ++ (y ++ z))) p1
-    ∙ sets_append (sets b at line) (at + 8) x (y ++ z)
-    ∙ ap (λ (p : ℕ). sets (sets (sets b at line) (at + 8) x) p (y ++ z)) p2
-    ∙ sets_append (sets (sets b at line) (at + 8) x) (at + 16) y z
-    ∙ ap (λ (p : ℕ). sets (sets (sets (sets b at line) (at + 8) x) (at + 16) y) p z) p3)
+shift_copied b line at e h =
+    let rest = take 24 (drop at b) in
+    let next : at + length line ≡ at + 8 = omega arith in
+    rw (copied_is b at h) (
+    sets_swap line b rest at (at + 8) (omega arith)
+    ∙ sym (ap (λ (q : ℕ). sets (sets b at line) q rest) next)
+    ∙ sym (sets_append b at line rest)
+    ∙ ap (λ (l : List ℕ). sets b at (line ++ l)) (lines_are b at (omega arith)))
 
 pub append_is : (b : List ℕ) (slot : ℕ) (s : Setpoint) (v place : ℕ) → sets (shift_of b (32 * slot) (line_of place v)) place (body_of s) ≡ append_of b slot s v place
 unfolding shift_of append_of

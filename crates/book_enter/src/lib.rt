@@ -5,7 +5,7 @@
 ghost use Rattle.std.specs.Prelude.{◌≡◌, ◌+◌, ◌*◌, ◌≤◌, ◌<◌, true, length};
 ghost use Rattle.std.proofs.lemmas.List.Edits.{sets};
 ghost use Rattle.setpoint.specs.Codec.{has_body};
-ghost use Rattle.book_rules.specs.Layout.{lines_of, front_of, line_at, line_of};
+ghost use Rattle.book_rules.specs.Layout.{lines_of, front_of, line_of};
 ghost use Rattle.book_rules.specs.Writing.{drop_oldest_of, kept_of, end_of, append_of, put_over_of};
 ghost use Rattle.book_rules.specs.Sound.{Fits};
 ghost use Rattle.book_rules.specs.Wrote.{staying_of};
@@ -21,16 +21,9 @@ fn line(place: u32, version: u32) -> [u8; 8]
     requires { place < 65536 }
     ensures { result ≡ line_of place version }
 {
-    [
-        (place % 256) as u8,
-        (place / 256) as u8,
-        5,
-        0,
-        (version % 256) as u8,
-        (version / 256 % 256) as u8,
-        (version / 65536 % 256) as u8,
-        (version / 16777216) as u8,
-    ]
+    let [low, high] = (place as u16).to_le_bytes();
+    let [a, b, c, d] = version.to_le_bytes();
+    [low, high, 5, 0, a, b, c, d]
 }
 
 // Bytes to a place.
@@ -38,28 +31,7 @@ fn put_bytes(book: &mut [u8], at: usize, bytes: &[u8])
     requires { at + length bytes.now ≤ length book.old }
     ensures { book.new ≡ sets book.old at bytes.now }
 {
-    let mut i = 0;
-    while i < bytes.len() {
-        book[at + i] = bytes[i];
-        i += 1;
-    }
-}
-
-// The eight bytes of a line.
-fn line_at(book: &[u8], at: usize) -> [u8; 8]
-    requires { at + 8 ≤ length book.now }
-    ensures { result ≡ line_at book.now at }
-{
-    [
-        book[at],
-        book[at + 1],
-        book[at + 2],
-        book[at + 3],
-        book[at + 4],
-        book[at + 5],
-        book[at + 6],
-        book[at + 7],
-    ]
+    book[at..at + bytes.len()].copy_from_slice(bytes);
 }
 
 // ---- the parts of a write
@@ -70,13 +42,7 @@ fn staying_at(book: &[u8], slot: usize, k: usize) -> usize
     requires k_in_bounds { 8 * k + 8 ≤ length book.now }
     ensures { result ≡ staying_at book.now slot k }
 {
-    if book_sound::is_kept(book, k) {
-        if k == 4 * slot + 3 {
-            return 0;
-        }
-        return 1;
-    }
-    0
+    usize::from(book_sound::is_kept(book, k) && k != 4 * slot + 3)
 }
 
 // How many bodies a write on the slot leaves, the new one not counted.
@@ -87,10 +53,8 @@ pub fn staying(n: usize, book: &[u8], slot: usize) -> usize
     ensures { result ≡ staying_of n book.now slot }
 {
     let mut total = 0;
-    let mut k = 0;
-    while k < 4 * n {
+    for k in 0..4 * n {
         total += staying_at(book, slot, k);
-        k += 1;
     }
     total
 }
@@ -106,10 +70,10 @@ pub fn unmark_oldest(n: usize, book: &[u8], slot: usize, marks: &mut [u8])
     ensures { marks.new ≡ unmark_oldest_of n book.now slot marks.old }
 {
     let k = 4 * slot + 3;
-    if book_sound::is_kept(book, k) {
-        marks[(book_sound::place_at(book, k) as usize - 32 * n) / 5 + 1] = 0;
+    if !book_sound::is_kept(book, k) {
         return;
     }
+    marks[(book_sound::place_at(book, k) as usize - 32 * n) / 5 + 1] = 0;
 }
 
 // The slot's oldest of four becomes zeros, line and body.
@@ -120,14 +84,12 @@ pub fn drop_oldest(book: &mut [u8], slot: usize)
     ensures { book.new ≡ drop_oldest_of book.old slot }
 {
     let k = 4 * slot + 3;
-    if book_sound::is_kept(book, k) {
-        let body = [0; 5];
-        let line = [0; 8];
-        let place = book_sound::place_at(book, k) as usize;
-        put_bytes(book, place, &body);
-        put_bytes(book, 8 * k, &line);
+    if !book_sound::is_kept(book, k) {
         return;
     }
+    let place = book_sound::place_at(book, k) as usize;
+    book[place..place + 5].fill(0);
+    book[8 * k..8 * k + 8].fill(0);
 }
 
 // The later of an end and of where line k's body ends.
@@ -135,14 +97,10 @@ fn later(book: &[u8], k: usize, end: usize) -> usize
     requires { 8 * k + 8 ≤ length book.now }
     ensures { result ≡ later_of book.now k end }
 {
-    if book_sound::is_kept(book, k) {
-        let till = book_sound::place_at(book, k) as usize + 5;
-        if end < till {
-            return till;
-        }
+    if !book_sound::is_kept(book, k) {
         return end;
     }
-    end
+    end.max(book_sound::place_at(book, k) as usize + 5)
 }
 
 // Where the last kept body ends; with none, where the contents end.
@@ -152,10 +110,8 @@ fn end(n: usize, book: &[u8]) -> usize
     ensures { result ≡ end_of n book.now }
 {
     let mut last = 32 * n;
-    let mut k = 0;
-    while k < 4 * n {
+    for k in 0..4 * n {
         last = later(book, k, last);
-        k += 1;
     }
     last
 }
@@ -166,13 +122,8 @@ fn shift(book: &mut [u8], at: usize, line: &[u8])
     requires at_in_bounds { at + 32 ≤ length book.old }
     ensures { book.new ≡ shift_of book.old at line.now }
 {
-    let first = line_at(book, at);
-    let second = line_at(book, at + 8);
-    let third = line_at(book, at + 16);
+    book.copy_within(at..at + 24, at + 8);
     put_bytes(book, at, line);
-    put_bytes(book, at + 8, &first);
-    put_bytes(book, at + 16, &second);
-    put_bytes(book, at + 24, &third);
 }
 
 // A setpoint's body to a place, and its line before the slot's others.
@@ -184,9 +135,8 @@ fn append(book: &mut [u8], slot: usize, s: Setpoint, version: u32, place: usize)
     ensures { book.new ≡ append_of book.old slot s version place }
 {
     let newest = line(place as u32, version);
-    let body = setpoint::bytes(setpoint::kind(s), setpoint::word(s));
     shift(book, 32 * slot, &newest);
-    put_bytes(book, place, &body);
+    put_bytes(book, place, &s.body());
 }
 
 // A setpoint into a book whose slot has at most three versions and whose kept bodies leave room for one more: behind

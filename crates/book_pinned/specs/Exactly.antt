@@ -1,13 +1,12 @@
 -- When a write is done, in plain numbers, of any build that meets `Statement`.
-use Rattle.std.specs.Prelude.{ℕ, ◌+◌, ◌*◌, ◌≤◌, ◌<◌, ◌≡◌, refl, ◌≢◌, ◌↔◌, List, [], Bool, true, false, length}
+use Rattle.std.specs.Prelude.{ℕ, ◌+◌, ◌*◌, ◌≤◌, ◌<◌, ◌≡◌, refl, ◌≢◌, ◌↔◌, List, [], Bool, true, false, length, Ok, Err}
 use Rattle.std.proofs.Common.{sym, ap, ◌∙◌, inl, inr, arith}
 use Rattle.std.proofs.Math.Decide.{ℕ_discrete}
 use Rattle.model.specs.Arena.{shape_fits, hold_in, is_live, cells_of}
 use Rattle.types.specs.declared.Head.{Head}
 use Rattle.types.specs.declared.Lease.{Lease}
 use Rattle.setpoint.specs.declared.Setpoint.{Setpoint}
-use Rattle.book_rules.specs.declared.BookAnswer.{BookAnswer}
-use Rattle.book_rules.specs.declared.BookAnswer.TheVariants.{Written, Refused}
+use Rattle.book_rules.specs.declared.BookDone.TheVariants.{Written}
 use Rattle.book_rules.specs.Layout.{is_sound}
 use Rattle.book_rules.proofs.Sound.{sound_is, is_sound_lem}
 use Rattle.book_rules.specs.declared.BookRefusal.{BookRefusal}
@@ -17,6 +16,7 @@ use Rattle.pinned.specs.Words.{arena, Shape, IsLive}
 use Rattle.pinned.proofs.Decided.{shape_there, shape_back, owned, owning}
 use Rattle.book_pinned.specs.Statement.{slots, newest, IsNotFinite, Undamaged, staying, Puts, WritesOver, Writes, BookBuild, MeetsBook}
 use Rattle.book_pinned.specs.Plain.{undamaged_there, undamaged_back}
+use Rattle.book_rules.specs.Rules.{BookAnswer}
 
 -- a live lease of this boot on the slot's cell, a finite setpoint, an undamaged book of a right length, a version left, and room for five bytes more
 pub record MayWrite (h : Head) (t b : List ℕ) (slot : ℕ) (l : Lease) (s : Setpoint) : Type 0 where
@@ -35,7 +35,7 @@ pub record MayWrite (h : Head) (t b : List ℕ) (slot : ℕ) (l : Lease) (s : Se
 abbrev pub WritesExactly : BookBuild → Type 0
 WritesExactly f =
     (h : Head) (t b : List ℕ) (slot : ℕ) (l : Lease) (s : Setpoint)
-    → ((v : ℕ) × (m : ℕ) × ((f.write h t b slot l s).0 ≡ Written v m)) ↔ MayWrite h t b slot l s
+    → ((v : ℕ) × (m : ℕ) × ((f.write h t b slot l s).0 ≡ Ok (Written v m))) ↔ MayWrite h t b slot l s
 
 -- what a test decides is so if it is not not so
 stable : (b : Bool) {C : Type 0} → (b ≡ true → C) → (C → b ≡ true) → ((C → ⊥) → ⊥) → C
@@ -50,15 +50,15 @@ same a b k = go (ℕ_discrete a b)
     go (no d) = absurd (k d)
 
 -- refused is not written
-apart : (x : BookAnswer × List ℕ) (r : BookRefusal) (c : List ℕ) (v m : ℕ) → x ≡ (Refused r, c) → x.0 ≡ Written v m → ⊥
-apart x r c v m e f = let g : Refused r ≡ Written v m = sym (ap (λ (y : BookAnswer × List ℕ). y.0) e) ∙ f in let z : ◌≡◌ {A = ℕ} 0 1 = cc in omega arith
+apart : (x : BookAnswer × List ℕ) (r : BookRefusal) (c : List ℕ) (v m : ℕ) → x ≡ (Err r, c) → x.0 ≡ Ok (Written v m) → ⊥
+apart x r c v m e f = let g : Err r ≡ Ok (Written v m) = sym (ap (λ (y : BookAnswer × List ℕ). y.0) e) ∙ f in let z : ◌≡◌ {A = ℕ} 0 1 = cc in omega arith
 
 module _ (h : Head) (t b : List ℕ) (slot : ℕ) (l : Lease) (s : Setpoint) (x : BookAnswer × List ℕ) where
-  puts_written : Puts (slots h) b slot s x → (v : ℕ) × (m : ℕ) × (x.0 ≡ Written v m)
+  puts_written : Puts (slots h) b slot s x → (v : ℕ) × (m : ℕ) × (x.0 ≡ Ok (Written v m))
   puts_written (inl (c, (d, p, e))) = (_, _, ap (λ (y : BookAnswer × List ℕ). y.0) e)
   puts_written (inr (c, (q, p, (d, r, e)))) = (_, _, ap (λ (y : BookAnswer × List ℕ). y.0) e)
 
-  over_written : WritesOver (slots h) b slot s x → (v m : ℕ) → x.0 ≡ Written v m
+  over_written : WritesOver (slots h) b slot s x → (v m : ℕ) → x.0 ≡ Ok (Written v m)
       → Undamaged (slots h) b × (newest b slot ≢ 4_294_967_295) × (32 * slots h + 5 * staying (slots h) b slot + 5 ≤ length b)
   over_written (inl (c, e)) v m q = absurd (apart x DamagedBook b v m e q)
   over_written (inr (n1, inl (c, e))) v m q = absurd (apart x VersionsSpent b v m e q)
@@ -69,7 +69,7 @@ module _ (h : Head) (t b : List ℕ) (slot : ℕ) (l : Lease) (s : Setpoint) (x 
     omega (arith, n3),
   )
 
-  written_may : Writes h t b slot l s x → (v m : ℕ) → x.0 ≡ Written v m → MayWrite h t b slot l s
+  written_may : Writes h t b slot l s x → (v m : ℕ) → x.0 ≡ Ok (Written v m) → MayWrite h t b slot l s
   written_may (inl (c, e)) v m q = absurd (apart x BadShape b v m e q)
   written_may (inr (n1, inl (c, e))) v m q = absurd (apart x BadSlot b v m e q)
   written_may (inr (n1, inr (n2, inl (c, e)))) v m q = absurd (apart x StaleBoot b v m e q)
@@ -96,13 +96,13 @@ module _ (h : Head) (t b : List ℕ) (slot : ℕ) (l : Lease) (s : Setpoint) (x 
         room = o.2;
       }
 
-  may_over : WritesOver (slots h) b slot s x → MayWrite h t b slot l s → (v : ℕ) × (m : ℕ) × (x.0 ≡ Written v m)
+  may_over : WritesOver (slots h) b slot s x → MayWrite h t b slot l s → (v : ℕ) × (m : ℕ) × (x.0 ≡ Ok (Written v m))
   may_over (inl (c, e)) w = absurd (c w.undamaged)
   may_over (inr (n1, inl (c, e))) w = absurd (w.version_left c)
   may_over (inr (n1, inr (n2, inl (c, e)))) w = absurd (omega (arith, w.room))
   may_over (inr (n1, inr (n2, inr (n3, p)))) w = puts_written p
 
-  may_written : Writes h t b slot l s x → MayWrite h t b slot l s → (v : ℕ) × (m : ℕ) × (x.0 ≡ Written v m)
+  may_written : Writes h t b slot l s x → MayWrite h t b slot l s → (v : ℕ) × (m : ℕ) × (x.0 ≡ Ok (Written v m))
   may_written (inl (c, e)) w = absurd (c w.shape)
   may_written (inr (n1, inl (inl (inl c), e))) w = absurd (omega (arith, w.contents))
   may_written (inr (n1, inl (inl (inr c), e))) w = absurd (omega (arith, w.limit))

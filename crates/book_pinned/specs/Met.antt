@@ -1,5 +1,5 @@
 -- Our four calls do what `Statement` asks: each refusal by its condition, in its place in the order, and what is done.
-use Rattle.std.specs.Prelude.{ℕ, ◌+◌, ◌*◌, ◌-◌, ◌≤◌, ◌<◌, ◌≡◌, refl, ◌⊎◌, ◌≢◌, List, [], Bool, false, not, ◌&&◌, ◌||◌, ltb, leb, eqb, length, replicate}
+use Rattle.std.specs.Prelude.{ℕ, ◌+◌, ◌*◌, ◌-◌, ◌≤◌, ◌<◌, ◌≡◌, refl, ◌⊎◌, ◌≢◌, List, [], Bool, false, not, ◌&&◌, ◌||◌, ltb, leb, eqb, length, replicate, Option, Some, None, Ok, Err}
 use Rattle.std.proofs.Common.{sym, ap, ◌∙◌, subst, inl, inr, arith, ltb-true, ltb-false, eqb-true, eq-eqb}
 use Rattle.std.proofs.lemmas.Bool.{eqb-false, not-false}
 use Rattle.choice.specs.Pick.{both}
@@ -8,19 +8,15 @@ use Rattle.types.specs.declared.Head.{Head}
 use Rattle.types.specs.declared.Lease.{Lease}
 use Rattle.setpoint.specs.Codec.{has_body}
 use Rattle.setpoint.specs.declared.Setpoint.{Setpoint}
-use Rattle.setpoint.specs.declared.Decoded.{Decoded}
-use Rattle.setpoint.specs.declared.Decoded.TheVariants as decoded
 use Rattle.book_rules.specs.Layout.{slots_of, front_of, place_at, newest_at, setting_at, is_sound}
 use Rattle.book_rules.specs.Writing.{drop_oldest_of, kept_of, is_full, put_of}
-use Rattle.book_rules.specs.Rules.{first_fault, judge_book, is_bad_book, is_bad_slot, is_holder, is_gone, last_version, book_rules, claim_rules, over_rules, open_rules, kept_rules}
+use Rattle.book_rules.specs.Rules.{BookAnswer, BookCheck, first_fault, judge_book, is_bad_book, is_bad_slot, is_holder, is_gone, last_version, book_rules, claim_rules, over_rules, open_rules, kept_rules}
 use Rattle.book_rules.specs.Calls.{prepare_book_of, written_of, write_setpoint_of, read_as, line_read, read_version_of, read_setpoint_of}
 use Rattle.book_rules.specs.Sound.{Sound}
 use Rattle.book_rules.proofs.Sound.{sound_is}
 use Rattle.book_rules.proofs.Dropped.{dropped}
 use Rattle.book_rules.proofs.Fine.{head_alone}
-use Rattle.book_rules.specs.declared.BookAnswer.{BookAnswer}
-use Rattle.book_rules.specs.declared.BookAnswer.TheVariants.{Done, Setting, Refused}
-use Rattle.book_rules.specs.declared.BookCheck.{BookCheck}
+use Rattle.book_rules.specs.declared.BookDone.TheVariants.{Done, Setting}
 use Rattle.book_rules.specs.declared.BookRefusal.TheVariants.{BadSlot, StaleBoot, NotHeld, NotFinite, DamagedBook, VersionsSpent, BookFull, NeverWritten}
 use Rattle.history.specs.Tests.{if_cases}
 use Rattle.pinned.specs.Words.{Is, If◌Then◌Else◌, With, arena, IsLive}
@@ -99,16 +95,16 @@ prepares_is h b =
     ))
   where
     judged : BookCheck → BookAnswer × List ℕ
-    judged k = judge_book k (λ r. (Refused r, b)) (Done, replicate (length b) 0)
+    judged k = judge_book k (λ r. (Err r, b)) (Ok Done, replicate (length b) 0)
 
     Rest : BookAnswer × List ℕ → Type 0
-    Rest = If◌Then◌Else◌ (BadBook (slots h) b) (Is (Refused BadSlot, b)) (Is (Done, replicate (length b) 0))
+    Rest = If◌Then◌Else◌ (BadBook (slots h) b) (Is (Err BadSlot, b)) (Is (Ok Done, replicate (length b) 0))
 
 -- a kept version's line is used, so its five bytes mean a setpoint, and this is told
 version_read_is : (n : ℕ) (b : List ℕ) (slot w : ℕ) → slot < n → Undamaged n b → (NotKept b slot w → ⊥)
-    → With (BodyAt b (place_in b (4 * slot + (newest b slot - w)))) (λ s. Is (Setting s w)) (line_read b (4 * slot + (newest_at b slot - w)) w)
+    → With (BodyAt b (place_in b (4 * slot + (newest b slot - w)))) (λ s. Is (Ok (Setting s w))) (line_read b (4 * slot + (newest_at b slot - w)) w)
 unfolding line_read
-version_read_is n b slot w i u g = subst (λ (v : ℕ). With (BodyAt b (place_in b k)) (λ s. Is (Setting s w)) (read_as (setting_at b (place_at b (4 * slot + (v - w)))) w)) (sym (version_is b (4 * slot))) (go (body_is b (place_in b k)))
+version_read_is n b slot w i u g = subst (λ (v : ℕ). With (BodyAt b (place_in b k)) (λ s. Is (Ok (Setting s w))) (read_as (setting_at b (place_at b (4 * slot + (v - w)))) w)) (sym (version_is b (4 * slot))) (go (body_is b (place_in b k)))
   where
     k : ℕ
     k = 4 * slot + (newest b slot - w)
@@ -120,9 +116,9 @@ version_read_is n b slot w i u g = subst (λ (v : ℕ). With (BodyAt b (place_in
         let young : w + 4 ≤ newest b slot → ⊥ = (λ z. g (inr (inr z))) in
         u.means k (omega arith) (omega (arith, u.falling slot (newest b slot - w) i (omega arith)))
 
-    go : ((s : Setpoint) × BodyAt b (place_in b k) s × (setting_at b (place_in b k) ≡ decoded.Setting s)) ⊎ (((s : Setpoint) → BodyAt b (place_in b k) s → ⊥) × (setting_at b (place_in b k) ≡ decoded.Damaged))
-        → With (BodyAt b (place_in b k)) (λ s. Is (Setting s w)) (read_as (setting_at b (place_at b k)) w)
-    go (inl (s, m, e)) = (s, m, ap (λ (p : ℕ). read_as (setting_at b p) w) (place_is b k) ∙ ap (λ (x : Decoded). read_as x w) e)
+    go : ((s : Setpoint) × BodyAt b (place_in b k) s × (setting_at b (place_in b k) ≡ Some s)) ⊎ (((s : Setpoint) → BodyAt b (place_in b k) s → ⊥) × (setting_at b (place_in b k) ≡ None))
+        → With (BodyAt b (place_in b k)) (λ s. Is (Ok (Setting s w))) (read_as (setting_at b (place_at b k)) w)
+    go (inl (s, m, e)) = (s, m, ap (λ (p : ℕ). read_as (setting_at b p) w) (place_is b k) ∙ ap (λ (x : Option Setpoint). read_as x w) e)
     go (inr (f, e)) = absurd (f means.0 means.1)
 
 reads_is : (h : Head) (b : List ℕ) (slot w : ℕ) → ReadsVersion h b slot w (read_version_of h b slot w)
@@ -148,23 +144,23 @@ reads_is h b slot w =
     ))
   where
     judged : BookCheck → BookAnswer
-    judged k = judge_book k Refused (line_read b (4 * slot + (newest_at b slot - w)) w)
+    judged k = judge_book k Err (line_read b (4 * slot + (newest_at b slot - w)) w)
 
     KeptVersion : BookAnswer → Type 0
     KeptVersion =
-        If◌Then◌Else◌ (NotKept b slot w) (Is (Refused NeverWritten))
-        (With (BodyAt b (place_in b (4 * slot + (newest b slot - w)))) λ s. Is (Setting s w))
+        If◌Then◌Else◌ (NotKept b slot w) (Is (Err NeverWritten))
+        (With (BodyAt b (place_in b (4 * slot + (newest b slot - w)))) λ s. Is (Ok (Setting s w)))
 
     SoundBook : BookAnswer → Type 0
-    SoundBook = If◌Then◌Else◌ (Undamaged (slots h) b → ⊥) (Is (Refused DamagedBook)) KeptVersion
+    SoundBook = If◌Then◌Else◌ (Undamaged (slots h) b → ⊥) (Is (Err DamagedBook)) KeptVersion
 
     InSlot : BookAnswer → Type 0
-    InSlot = If◌Then◌Else◌ (BadBook (slots h) b ⊎ (slots h ≤ slot)) (Is (Refused BadSlot)) SoundBook
+    InSlot = If◌Then◌Else◌ (BadBook (slots h) b ⊎ (slots h ≤ slot)) (Is (Err BadSlot)) SoundBook
 
 -- ---- writing
 
 over_is : (n : ℕ) (b : List ℕ) (slot : ℕ) (s : Setpoint) → slot < n
-    → WritesOver n b slot s (judge_book (first_fault (over_rules n b slot)) (λ r. (Refused r, b)) (written_of (newest_at b slot + 1) (put_of n b slot s (newest_at b slot + 1))))
+    → WritesOver n b slot s (judge_book (first_fault (over_rules n b slot)) (λ r. (Err r, b)) (written_of (newest_at b slot + 1) (put_of n b slot s (newest_at b slot + 1))))
 unfolding over_rules first_fault
 over_is n b slot s i =
     if_cases (λ (k : BookCheck). WritesOver n b slot s (judged k)) (not (is_sound n b)) (λ e. inl ((damage_decides n b).0 e, refl))
@@ -184,13 +180,13 @@ over_is n b slot s i =
     ))
   where
     judged : BookCheck → BookAnswer × List ℕ
-    judged k = judge_book k (λ r. (Refused r, b)) (written_of (newest_at b slot + 1) (put_of n b slot s (newest_at b slot + 1)))
+    judged k = judge_book k (λ r. (Err r, b)) (written_of (newest_at b slot + 1) (put_of n b slot s (newest_at b slot + 1)))
 
     Room : BookAnswer × List ℕ → Type 0
-    Room = If◌Then◌Else◌ (length b < 32 * n + 5 * staying n b slot + 5) (Is (Refused BookFull, b)) (Puts n b slot s)
+    Room = If◌Then◌Else◌ (length b < 32 * n + 5 * staying n b slot + 5) (Is (Err BookFull, b)) (Puts n b slot s)
 
     Versions : BookAnswer × List ℕ → Type 0
-    Versions = If◌Then◌Else◌ (newest b slot ≡ 4_294_967_295) (Is (Refused VersionsSpent, b)) Room
+    Versions = If◌Then◌Else◌ (newest b slot ≡ 4_294_967_295) (Is (Err VersionsSpent, b)) Room
 
 writes_is : (h : Head) (t b : List ℕ) (slot : ℕ) (l : Lease) (s : Setpoint) → Writes h t b slot l s (write_setpoint_of h t b slot l s)
 unfolding write_setpoint_of claim_rules first_fault
@@ -216,19 +212,19 @@ writes_is h t b slot l s =
     ))
   where
     judged : BookCheck → BookAnswer × List ℕ
-    judged k = judge_book k (λ r. (Refused r, b)) (written_of (newest_at b slot + 1) (put_of (slots_of h) b slot s (newest_at b slot + 1)))
+    judged k = judge_book k (λ r. (Err r, b)) (written_of (newest_at b slot + 1) (put_of (slots_of h) b slot s (newest_at b slot + 1)))
 
     Finite : BookAnswer × List ℕ → Type 0
-    Finite = If◌Then◌Else◌ (IsNotFinite s) (Is (Refused NotFinite, b)) (WritesOver (slots h) b slot s)
+    Finite = If◌Then◌Else◌ (IsNotFinite s) (Is (Err NotFinite, b)) (WritesOver (slots h) b slot s)
 
     Holder : BookAnswer × List ℕ → Type 0
-    Holder = If◌Then◌Else◌ (NotHolder h t slot l) (Is (Refused NotHeld, b)) Finite
+    Holder = If◌Then◌Else◌ (NotHolder h t slot l) (Is (Err NotHeld, b)) Finite
 
     Fresh : BookAnswer × List ℕ → Type 0
-    Fresh = If◌Then◌Else◌ (l.boot ≢ h.boot) (Is (Refused StaleBoot, b)) Holder
+    Fresh = If◌Then◌Else◌ (l.boot ≢ h.boot) (Is (Err StaleBoot, b)) Holder
 
     InSlot : BookAnswer × List ℕ → Type 0
-    InSlot = If◌Then◌Else◌ (BadBook (slots h) b ⊎ (slots h ≤ slot)) (Is (Refused BadSlot, b)) Fresh
+    InSlot = If◌Then◌Else◌ (BadBook (slots h) b ⊎ (slots h ≤ slot)) (Is (Err BadSlot, b)) Fresh
 
 pub book_meets : MeetsBook ours
 unfolding read_setpoint_of

@@ -1,5 +1,5 @@
 -- The words of crates `setpoint` and `book_rules` in the plain numbers of `Statement`: lines, what five bytes mean, damage, what stays and how many.
-use Rattle.std.specs.Prelude.{ℕ, zero, suc, ◌+◌, ◌*◌, ◌-◌, ◌/◌, ◌%◌, ◌≤◌, ◌<◌, ◌≡◌, refl, ◌⊎◌, ◌≢◌, List, Bool, true, false, ◌&&◌, eqb, get_or, if◌then◌else◌}
+use Rattle.std.specs.Prelude.{ℕ, zero, suc, ◌+◌, ◌*◌, ◌-◌, ◌/◌, ◌%◌, ◌≤◌, ◌<◌, ◌≡◌, refl, ◌⊎◌, ◌≢◌, List, Bool, true, false, ◌&&◌, eqb, get_or, if◌then◌else◌, Option, Some, None}
 use Rattle.std.proofs.Common.{sym, ◌∙◌, inl, inr, ltb-true, ltb-false, eqb-true, eq-eqb, ne_eqb, lt-ltb, le-ltb}
 use Rattle.std.proofs.Math.Path.{ap}
 use Rattle.std.proofs.Math.Bool.{not}
@@ -12,8 +12,6 @@ use Rattle.std.proofs.lemmas.Bool.{eqb-false}
 use Rattle.setpoint.specs.Codec.{is_finite, has_body, finite_bits, setting_of, join_of, decode_of}
 use Rattle.setpoint.specs.declared.Setpoint.{Setpoint}
 use Rattle.setpoint.specs.declared.Setpoint.TheVariants.{Pressure, Speed, Valve}
-use Rattle.setpoint.specs.declared.Decoded.{Decoded}
-use Rattle.setpoint.specs.declared.Decoded.TheVariants as decoded
 use Rattle.book_rules.specs.Layout.{five_at, place_at, length_at, version_at, is_kept, setting_at, is_setting, is_sound}
 use Rattle.book_rules.specs.Writing.{count, drop_oldest_of, kept_of, rank_of, slid_of, moved_of}
 use Rattle.book_rules.specs.Sound.{Kept, Fits, Sound}
@@ -47,8 +45,8 @@ used b k h e = omega (arith, version_is b k)
 
 -- ---- what five bytes mean
 
-abbrev Read : (k w : ℕ) → Decoded → Type 0
-Read k w d = ((s : Setpoint) × Means k w s × (d ≡ decoded.Setting s)) ⊎ (((s : Setpoint) → Means k w s → ⊥) × (d ≡ decoded.Damaged))
+abbrev Read : (k w : ℕ) → Option Setpoint → Type 0
+Read k w d = ((s : Setpoint) × Means k w s × (d ≡ Some s)) ⊎ (((s : Setpoint) → Means k w s → ⊥) × (d ≡ None))
 
 read_is : (k w : ℕ) → Read k w (setting_of k w)
 unfolding setting_of
@@ -60,10 +58,10 @@ read_is k w =
         → (f ≡ true → w % 2147483648 < 2139095040) → (f ≡ false → 2139095040 ≤ w % 2147483648)
         → (z ≡ true → w ≡ 0) → (z ≡ false → w ≢ 0) → (o ≡ true → w ≡ 1) → (o ≡ false → w ≢ 1)
         → Read k w (
-        if p then (if f then decoded.Setting (Pressure (of_bits binary32 w)) else decoded.Damaged)
-        else if q then decoded.Setting (Speed w)
-        else if r then (if z then decoded.Setting (Valve false) else if o then decoded.Setting (Valve true) else decoded.Damaged)
-        else decoded.Damaged)
+        if p then (if f then Some (Pressure (of_bits binary32 w)) else None)
+        else if q then Some (Speed w)
+        else if r then (if z then Some (Valve false) else if o then Some (Valve true) else None)
+        else None)
     go true q r true z o p1 p0 q1 q0 r1 r0 f1 f0 z1 z0 o1 o0 = inl (Pressure (of_bits binary32 w), inl (p1 refl, f1 refl, refl), refl)
     go true q r false z o p1 p0 q1 q0 r1 r0 f1 f0 z1 z0 o1 o0 = inr (none, refl)
       where
@@ -92,14 +90,14 @@ read_is k w =
 
 -- the five bytes from p on are read as a setpoint, or there is none that they mean
 pub body_is : (b : List ℕ) (p : ℕ)
-    → ((s : Setpoint) × BodyAt b p s × (setting_at b p ≡ decoded.Setting s)) ⊎ (((s : Setpoint) → BodyAt b p s → ⊥) × (setting_at b p ≡ decoded.Damaged))
+    → ((s : Setpoint) × BodyAt b p s × (setting_at b p ≡ Some s)) ⊎ (((s : Setpoint) → BodyAt b p s → ⊥) × (setting_at b p ≡ None))
 unfolding setting_at decode_of five_at join_of BodyAt
 body_is b p = read_is (get_or b p 0) (get_or b (p + 1) 0 + get_or b (p + 2) 0 * 256 + get_or b (p + 3) 0 * 65536 + get_or b (p + 4) 0 * 16777216)
 
 body_there : (b : List ℕ) (p : ℕ) → is_setting (setting_at b p) ≡ true → (s : Setpoint) × BodyAt b p s
 body_there b p e = go (body_is b p)
   where
-    go : ((s : Setpoint) × BodyAt b p s × (setting_at b p ≡ decoded.Setting s)) ⊎ (((s : Setpoint) → BodyAt b p s → ⊥) × (setting_at b p ≡ decoded.Damaged))
+    go : ((s : Setpoint) × BodyAt b p s × (setting_at b p ≡ Some s)) ⊎ (((s : Setpoint) → BodyAt b p s → ⊥) × (setting_at b p ≡ None))
         → (s : Setpoint) × BodyAt b p s
     go (inl (s, m, f)) = (s, m)
     go (inr (f, g)) = absurd (apart_from (sym (ap is_setting g) ∙ e))
@@ -107,7 +105,7 @@ body_there b p e = go (body_is b p)
 body_back : (b : List ℕ) (p : ℕ) (s : Setpoint) → BodyAt b p s → is_setting (setting_at b p) ≡ true
 body_back b p s m = go (body_is b p)
   where
-    go : ((s : Setpoint) × BodyAt b p s × (setting_at b p ≡ decoded.Setting s)) ⊎ (((s : Setpoint) → BodyAt b p s → ⊥) × (setting_at b p ≡ decoded.Damaged))
+    go : ((s : Setpoint) × BodyAt b p s × (setting_at b p ≡ Some s)) ⊎ (((s : Setpoint) → BodyAt b p s → ⊥) × (setting_at b p ≡ None))
         → is_setting (setting_at b p) ≡ true
     go (inl (r, l, f)) = ap is_setting f
     go (inr (f, g)) = absurd (f s m)

@@ -1,6 +1,6 @@
 -- A write that is not refused does what `Statement` says: it slides exactly if it must, and leaves these bytes.
 use Prim.Native.Nat.{ℕ, zero, suc, ◌+◌, ◌*◌, ◌-◌, ◌≤◌, ◌<◌}
-use Rattle.std.specs.Prelude.{◌≡◌, ◌⊎◌, ◌≢◌, Bool, length, get_or, if◌then◌else◌}
+use Rattle.std.specs.Prelude.{◌≡◌, ◌⊎◌, ◌≢◌, Bool, length, get_or, if◌then◌else◌, Ok}
 use Rattle.std.proofs.Math.Path.{refl, ap}
 use Rattle.std.proofs.Common.{sym, ◌∙◌, arith}
 use Rattle.std.proofs.Math.Logic.{inl, inr}
@@ -18,7 +18,7 @@ use Rattle.book_rules.proofs.Sound.{kept_is, is_kept_lem}
 use Rattle.book_rules.specs.Dropped.{Dropped}
 use Rattle.book_rules.proofs.Dropped.{dropped}
 use Rattle.book_rules.proofs.Slid.{front_is, ends_is, laid_byte, laid_else, erased_body, erased_else}
-use Rattle.book_rules.specs.declared.BookAnswer.TheVariants.{Written}
+use Rattle.book_rules.specs.declared.BookDone.TheVariants.{Written}
 use Rattle.history.specs.Tests.{if_cases}
 use Rattle.book_pinned.specs.Statement.{place_in, version_in, newest, Stays, staying, slid, moved, Crowded, BehindAll, InBody, Left, SamePlaces, NewPlaces, Puts}
 use Rattle.book_pinned.specs.Plain.{place_is, version_is, kept, used, stays_kept, stays_place, kept_stays, slid_is, staying_is, moved_is}
@@ -247,7 +247,7 @@ module _ (n : ℕ) (b : List ℕ) (slot : ℕ) (inside : slot < n) (f : Fits n b
         (λ z. inl (crowded_there room_is z, (append_of (compact_of n d) slot s v end, (slid_left, new_places), told)))
         (λ z. inr (crowded_not z, (end_of n d, behind_is, (append_of d slot s v (end_of n d), (still_left z, same_places z), refl))))
       where
-        told : written_of v (moved_of n d, append_of (compact_of n d) slot s v (front_of n + 5 * kept_of n d)) ≡ (Written v (moved n b slot), append_of (compact_of n d) slot s v end)
+        told : written_of v (moved_of n d, append_of (compact_of n d) slot s v (front_of n + 5 * kept_of n d)) ≡ (Ok (Written v (moved n b slot)), append_of (compact_of n d) slot s v end)
         told =
             ap (λ (y : ℕ). written_of v (y, append_of (compact_of n d) slot s v (front_of n + 5 * kept_of n d))) (moved_is n b slot inside f)
             ∙ ap (λ (y : ℕ). written_of v (moved n b slot, append_of (compact_of n d) slot s v (32 * n + 5 * y))) (staying_is n b slot inside f)

@@ -3,15 +3,16 @@
 -- a thing is said to be. Of the definitions of crates `setpoint` and `book_rules`, which it pins down, it cites none; tests/pinned.sh looks at its imports.
 -- `Theorems` proves that ours does all this, and that nothing else does. A sentence in double quotes is of document 02; `Words` says how to read the signs.
 -- A book may be any list of numbers: nothing here asks that they are below 256.
-use Rattle.std.specs.Prelude.{ℕ, zero, suc, ◌+◌, ◌*◌, ◌-◌, ◌/◌, ◌%◌, ◌≤◌, ◌<◌, min, ◌≡◌, ◌⊎◌, ◌≢◌, List, [], true, false, length, get_or, replicate}
+use Rattle.std.specs.Prelude.{ℕ, zero, suc, ◌+◌, ◌*◌, ◌-◌, ◌/◌, ◌%◌, ◌≤◌, ◌<◌, min, ◌≡◌, ◌⊎◌, ◌≢◌, List, [], true, false, length, get_or, replicate, Result, Ok, Err}
 use Rattle.std.specs.Float.{nan, inf, fin, binary32}
 use Rattle.std.specs.Float.Ieee.{of_bits, to_bits}
 use Rattle.types.specs.declared.Head.{Head}
 use Rattle.types.specs.declared.Lease.{Lease}
 use Rattle.setpoint.specs.declared.Setpoint.{Setpoint}
 use Rattle.setpoint.specs.declared.Setpoint.TheVariants.{Pressure, Speed, Valve}
-use Rattle.book_rules.specs.declared.BookAnswer.{BookAnswer}
-use Rattle.book_rules.specs.declared.BookAnswer.TheVariants.{Done, Written, Setting, Refused}
+use Rattle.book_rules.specs.declared.BookDone.{BookDone}
+use Rattle.book_rules.specs.declared.BookRefusal.{BookRefusal}
+use Rattle.book_rules.specs.declared.BookDone.TheVariants.{Done, Written, Setting}
 use Rattle.book_rules.specs.declared.BookRefusal.TheVariants.{BadShape, BadSlot, StaleBoot, NotHeld, NotFinite, DamagedBook, VersionsSpent, BookFull, NeverWritten}
 use Rattle.pinned.specs.Words.{Is, If◌Then◌Else◌, With, arena, Shape, IsLive}
 
@@ -182,10 +183,10 @@ NewPlaces n b c slot to = (k j : ℕ) → Stays n b slot k → Goes slot k j →
 -- ---- the calls
 
 pub record BookBuild : Type 0 where
-  pub prepare : Head → (book : List ℕ) → BookAnswer × List ℕ
-  pub write : Head → (table book : List ℕ) (slot : ℕ) → Lease → Setpoint → BookAnswer × List ℕ
-  pub read : Head → (book : List ℕ) (slot : ℕ) → BookAnswer
-  pub read_version : Head → (book : List ℕ) (slot version : ℕ) → BookAnswer
+  pub prepare : Head → (book : List ℕ) → Result BookDone BookRefusal × List ℕ
+  pub write : Head → (table book : List ℕ) (slot : ℕ) → Lease → Setpoint → Result BookDone BookRefusal × List ℕ
+  pub read : Head → (book : List ℕ) (slot : ℕ) → Result BookDone BookRefusal
+  pub read_version : Head → (book : List ℕ) (slot version : ℕ) → Result BookDone BookRefusal
 
 -- 1, where a call takes no table: a head that no table would fit
 abbrev pub BadHead : Head → Type 0
@@ -200,44 +201,44 @@ abbrev pub NotHolder : Head → (table : List ℕ) (slot : ℕ) → Lease → Ty
 NotHolder h t slot l = IsLive (arena h t []) l.cell l.serial × (l.cell ≡ slot) → ⊥
 
 -- "Preparing the book writes all of it"
-abbrev pub PreparesBook : Head → (book : List ℕ) → BookAnswer × List ℕ → Type 0
+abbrev pub PreparesBook : Head → (book : List ℕ) → Result BookDone BookRefusal × List ℕ → Type 0
 PreparesBook h b =
-    If BadHead h Then Is (Refused BadShape, b)
-    Else If BadBook (slots h) b Then Is (Refused BadSlot, b)
-    Else Is (Done, replicate (length b) 0)
+    If BadHead h Then Is (Err BadShape, b)
+    Else If BadBook (slots h) b Then Is (Err BadSlot, b)
+    Else Is (Ok Done, replicate (length b) 0)
 
 -- a write that is not refused "appends a body". With no room behind the last, the bodies that stay slide first, and the new one goes behind them
-abbrev pub Slides : (n : ℕ) (book : List ℕ) (slot : ℕ) → Setpoint → BookAnswer × List ℕ → Type 0
+abbrev pub Slides : (n : ℕ) (book : List ℕ) (slot : ℕ) → Setpoint → Result BookDone BookRefusal × List ℕ → Type 0
 Slides n b slot s =
     With (λ c. Left n b c slot s (slid n b slot) (32 * n + 5 * staying n b slot) × NewPlaces n b c slot (slid n b slot)) λ c.
-    Is (Written (newest b slot + 1) (moved n b slot), c)
+    Is (Ok (Written (newest b slot + 1) (moved n b slot)), c)
 
 -- else each stays where it is
-abbrev pub Appends : (n : ℕ) (book : List ℕ) (slot : ℕ) → Setpoint → BookAnswer × List ℕ → Type 0
+abbrev pub Appends : (n : ℕ) (book : List ℕ) (slot : ℕ) → Setpoint → Result BookDone BookRefusal × List ℕ → Type 0
 Appends n b slot s =
     With (BehindAll n b slot) λ p.
     With (λ c. Left n b c slot s (place_in b) p × SamePlaces n b c slot) λ c.
-    Is (Written (newest b slot + 1) 0, c)
+    Is (Ok (Written (newest b slot + 1) 0), c)
 
-abbrev pub Puts : (n : ℕ) (book : List ℕ) (slot : ℕ) → Setpoint → BookAnswer × List ℕ → Type 0
+abbrev pub Puts : (n : ℕ) (book : List ℕ) (slot : ℕ) → Setpoint → Result BookDone BookRefusal × List ℕ → Type 0
 Puts n b slot s = If Crowded n b slot Then Slides n b slot s Else Appends n b slot s
 
 -- L10: "Refuse BookFull, last in order, exactly when kept bodies after that drop leave fewer than 5 bytes."
-abbrev pub WritesOver : (n : ℕ) (book : List ℕ) (slot : ℕ) → Setpoint → BookAnswer × List ℕ → Type 0
+abbrev pub WritesOver : (n : ℕ) (book : List ℕ) (slot : ℕ) → Setpoint → Result BookDone BookRefusal × List ℕ → Type 0
 WritesOver n b slot s =
-    If (Undamaged n b → ⊥) Then Is (Refused DamagedBook, b)
-    Else If newest b slot ≡ 4_294_967_295 Then Is (Refused VersionsSpent, b)
-    Else If length b < 32 * n + 5 * staying n b slot + 5 Then Is (Refused BookFull, b)
+    If (Undamaged n b → ⊥) Then Is (Err DamagedBook, b)
+    Else If newest b slot ≡ 4_294_967_295 Then Is (Err VersionsSpent, b)
+    Else If length b < 32 * n + 5 * staying n b slot + 5 Then Is (Err BookFull, b)
     Else Puts n b slot s
 
 -- "Its refusals in order"; L8: 16 "before 3 and 12 at that place"; "refusals change nothing"
-abbrev pub Writes : Head → (table book : List ℕ) (slot : ℕ) → Lease → Setpoint → BookAnswer × List ℕ → Type 0
+abbrev pub Writes : Head → (table book : List ℕ) (slot : ℕ) → Lease → Setpoint → Result BookDone BookRefusal × List ℕ → Type 0
 Writes h t b slot l s =
-    If (Shape h (length t) → ⊥) Then Is (Refused BadShape, b)
-    Else If BadBook (slots h) b ⊎ (slots h ≤ slot) Then Is (Refused BadSlot, b)
-    Else If l.boot ≢ h.boot Then Is (Refused StaleBoot, b)
-    Else If NotHolder h t slot l Then Is (Refused NotHeld, b)
-    Else If IsNotFinite s Then Is (Refused NotFinite, b)
+    If (Shape h (length t) → ⊥) Then Is (Err BadShape, b)
+    Else If BadBook (slots h) b ⊎ (slots h ≤ slot) Then Is (Err BadSlot, b)
+    Else If l.boot ≢ h.boot Then Is (Err StaleBoot, b)
+    Else If NotHolder h t slot l Then Is (Err NotHeld, b)
+    Else If IsNotFinite s Then Is (Err NotFinite, b)
     Else WritesOver (slots h) b slot s
 
 -- "Version 0 reads as NeverWritten."; L10: "NeverWritten now also answers for an older version not kept": 0, one not yet written, one that was dropped
@@ -245,13 +246,13 @@ abbrev pub NotKept : (book : List ℕ) (slot version : ℕ) → Type 0
 NotKept b slot w = (w ≡ 0) ⊎ ((newest b slot < w) ⊎ (w + 4 ≤ newest b slot))
 
 -- version w stands newest - w lines behind the newest
-abbrev pub ReadsVersion : Head → (book : List ℕ) (slot version : ℕ) → BookAnswer → Type 0
+abbrev pub ReadsVersion : Head → (book : List ℕ) (slot version : ℕ) → Result BookDone BookRefusal → Type 0
 ReadsVersion h b slot w =
-    If BadHead h Then Is (Refused BadShape)
-    Else If BadBook (slots h) b ⊎ (slots h ≤ slot) Then Is (Refused BadSlot)
-    Else If (Undamaged (slots h) b → ⊥) Then Is (Refused DamagedBook)
-    Else If NotKept b slot w Then Is (Refused NeverWritten)
-    Else With (BodyAt b (place_in b (4 * slot + (newest b slot - w)))) λ s. Is (Setting s w)
+    If BadHead h Then Is (Err BadShape)
+    Else If BadBook (slots h) b ⊎ (slots h ≤ slot) Then Is (Err BadSlot)
+    Else If (Undamaged (slots h) b → ⊥) Then Is (Err DamagedBook)
+    Else If NotKept b slot w Then Is (Err NeverWritten)
+    Else With (BodyAt b (place_in b (4 * slot + (newest b slot - w)))) λ s. Is (Ok (Setting s w))
 
 pub record MeetsBook (f : BookBuild) : Type 0 where
   pub prepares : (h : Head) (b : List ℕ) → PreparesBook h b (f.prepare h b)

@@ -8,7 +8,6 @@ use Rattle.types.specs.declared.Lease.{Lease}
 use Rattle.setpoint.specs.declared.Setpoint.{Setpoint}
 use Rattle.book_rules.specs.Layout.{is_sound}
 use Rattle.book_rules.proofs.Sound.{sound_is, is_sound_lem}
-use Rattle.book_rules.specs.declared.BookAnswer.{BookAnswer}
 use Rattle.book_pinned.specs.Statement.{Undamaged, BookBuild, MeetsBook}
 use Rattle.book_pinned.specs.Same.{SameBook}
 use Rattle.book_pinned.specs.Same as same
@@ -16,6 +15,7 @@ use Rattle.book_pinned.specs.Met.{ours}
 use Rattle.book_pinned.specs.Met as met
 use Rattle.book_pinned.specs.Exactly as exactly
 use Rattle.book_pinned.specs.Plain as plain
+use Rattle.book_rules.specs.Rules.{BookAnswer}
 
 pub book_meets : MeetsBook ours
 book_meets = met.book_meets

@@ -1,6 +1,6 @@
 -- Wrong builds of the book, each with one slip in its write, and that none meets `Statement`. Each is ours but for that slip; a row names a book, and a number in
 -- which the two differ there, computed: one slot, its cell held by serial 1, a write of speed 16. What field `writes` says of that write allows ours alone.
-use Rattle.std.specs.Prelude.{ℕ, ◌+◌, ◌*◌, ◌-◌, ◌≡◌, refl, List, [], ◌∷◌, ◌++◌, eqb, length, get_or, replicate, if◌then◌else◌}
+use Rattle.std.specs.Prelude.{ℕ, ◌+◌, ◌*◌, ◌-◌, ◌≡◌, refl, List, [], ◌∷◌, ◌++◌, eqb, length, get_or, replicate, if◌then◌else◌, Ok, Err}
 use Rattle.std.proofs.Common.{sym, ap, ◌∙◌, arith}
 use Rattle.std.proofs.lemmas.List.Edits.{sets}
 use Rattle.model.specs.Arena.{head_of, lease_of, head_fits, shape_fits, bit_at, owner_at, is_free, is_held, state_of, state_at, is_live}
@@ -10,11 +10,10 @@ use Rattle.setpoint.specs.Codec.{is_finite, bytes_of, body_of, join_of, setting_
 use Rattle.setpoint.specs.declared.Setpoint.{Setpoint}
 use Rattle.setpoint.specs.declared.Setpoint.TheVariants.{Speed}
 use Rattle.book_rules.specs.Layout.{slots_of, line_at, five_at, line_of, lines_of, front_of, all, place_at, length_at, version_at, newest_at, is_kept, setting_at, is_falling, is_fitting, is_apart, is_sound}
-use Rattle.book_rules.specs.Rules.{is_holder, first_fault, judge_book, is_bad_book, is_bad_slot, claim_rules, over_rules, write_rules}
+use Rattle.book_rules.specs.Rules.{BookAnswer, is_holder, first_fault, judge_book, is_bad_book, is_bad_slot, claim_rules, over_rules, write_rules}
 use Rattle.book_rules.specs.Writing.{count, most, put_many, drop_oldest_of, kept_of, end_of, is_crowded, is_full, rank_of, slid_of, moved_of, erased_of, laid_of, if_kept, place_bytes, compact_of, append_of, put_over_of, put_of}
 use Rattle.book_rules.specs.Calls.{prepare_book_of, written_of, write_setpoint_of, read_version_of, read_setpoint_of}
-use Rattle.book_rules.specs.declared.BookAnswer.{BookAnswer}
-use Rattle.book_rules.specs.declared.BookAnswer.TheVariants.{Done, Written, Setting, Refused}
+use Rattle.book_rules.specs.declared.BookDone.TheVariants.{Done, Written, Setting}
 use Rattle.book_rules.specs.declared.BookRefusal.TheVariants.{BookFull}
 use Rattle.book_pinned.specs.Statement.{BookBuild, MeetsBook}
 use Rattle.book_pinned.specs.Met.{ours}
@@ -28,7 +27,7 @@ writing w = record { prepare = prepare_book_of; write = w; read = read_setpoint_
 -- ours, where no refusal applies otherwise
 abbrev putting : (ℕ → List ℕ → ℕ → Setpoint → ℕ → ℕ × List ℕ) → BookBuild
 putting put =
-    writing (λ h t b slot l s. judge_book (first_fault (write_rules h t b slot l s)) (λ r. (Refused r, b))
+    writing (λ h t b slot l s. judge_book (first_fault (write_rules h t b slot l s)) (λ r. (Err r, b))
     (written_of (newest_at b slot + 1) (put (slots_of h) b slot s (newest_at b slot + 1))))
 
 -- it puts the new body right behind the contents, where these five bytes are free
@@ -68,7 +67,7 @@ clears_the_rest =
 abbrev pub drops_too_late : BookBuild
 drops_too_late =
     writing (λ h t b slot l s.
-    if is_full (slots_of h) b then (Refused BookFull, b) else write_setpoint_of h t b slot l s)
+    if is_full (slots_of h) b then (Err BookFull, b) else write_setpoint_of h t b slot l s)
 
 -- ---- the books
 
@@ -111,16 +110,16 @@ on f b = f.write head table b 0 (lease_of 0 1 5) (Speed 16)
 
 -- the bytes moved; whether it is refused
 abbrev moved_by : BookAnswer → ℕ
-moved_by (Written v m) = m
-moved_by Done = 0
-moved_by (Setting s v) = 0
-moved_by (Refused r) = 0
+moved_by (Ok (Written v m)) = m
+moved_by (Ok Done) = 0
+moved_by (Ok (Setting s v)) = 0
+moved_by (Err r) = 0
 
 abbrev refused : BookAnswer → ℕ
-refused (Written v m) = 0
-refused Done = 0
-refused (Setting s v) = 0
-refused (Refused r) = 1
+refused (Ok (Written v m)) = 0
+refused (Ok Done) = 0
+refused (Ok (Setting s v)) = 0
+refused (Err r) = 1
 
 -- ---- they fall
 

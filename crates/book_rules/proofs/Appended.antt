@@ -1,5 +1,5 @@
 -- "then appends a body": what a new line, over the slot's first three, and a new body behind all others leave.
-use Rattle.std.specs.Prelude.{ℕ, zero, suc, ◌+◌, ◌*◌, ◌-◌, ◌/◌, ◌%◌, ◌≤◌, ◌<◌, ◌≡◌, ◌≢◌, ◌⊎◌, List, ◌++◌, true, eqb, length, get_or, if◌then◌else◌}
+use Rattle.std.specs.Prelude.{ℕ, zero, suc, ◌+◌, ◌*◌, ◌-◌, ◌/◌, ◌%◌, ◌≤◌, ◌<◌, ◌≡◌, ◌≢◌, ◌⊎◌, List, ◌++◌, true, length, get_or, Some}
 use Rattle.std.proofs.Math.Path.{refl}
 use Rattle.std.proofs.Common.{sym, ap, ◌∙◌, inl, inr, arith, get_or-append-add, eq-eqb, ne_eqb}
 use Rattle.std.proofs.Math.Decide.{ℕ_discrete, dec_lt}
@@ -10,7 +10,6 @@ use Rattle.setpoint.specs.Codec.{has_body, kind_of, word_of, bytes_of, body_of, 
 use Rattle.setpoint.specs.RoundTrip.{Held}
 use Rattle.setpoint.proofs.RoundTrip.{join_low, read_back}
 use Rattle.setpoint.specs.declared.Setpoint.{Setpoint}
-use Rattle.setpoint.specs.declared.Decoded.TheVariants as decoded
 use Rattle.book_rules.specs.Layout.{five_at, line_at, line_of, lines_of, front_of, place_at, length_at, version_at, setting_at, is_setting}
 use Rattle.book_rules.specs.Stores.{sets_below, sets_above, sets_in, five_in}
 use Rattle.book_rules.specs.Writing.{shifted_of, append_of}
@@ -105,7 +104,7 @@ pub record Appended (n : ℕ) (b c : List ℕ) (slot : ℕ) (s : Setpoint) (v p 
   pub long : length c ≡ length b
   pub newest : version_at c (4 * slot) ≡ v
   pub place : place_at c (4 * slot) ≡ p
-  pub written : setting_at c p ≡ decoded.Setting s
+  pub written : setting_at c p ≡ Some s
   pub own : (k : ℕ) → 4 * slot ≤ k → k < 4 * slot + 3 → Alike c b (k + 1) k
   pub other : (k : ℕ) → k < lines_of n → (k < 4 * slot) ⊎ (4 * slot + 4 ≤ k) → Alike c b k k
   pub bodies : (k : ℕ) → k < lines_of n → Kept b k → five_at c (place_at b k) ≡ five_at b (place_at b k)
@@ -174,7 +173,7 @@ module _ (n : ℕ) (b : List ℕ) (slot : ℕ) (s : Setpoint) (v p : ℕ) (insid
   unfolding body_of bytes_of
   body_in d l = five_in d p (kind_of s) (word_of s % 256) (word_of s / 256 % 256) (word_of s / 65536 % 256) (word_of s / 16777216) l
 
-  written_is : setting_at c p ≡ decoded.Setting s
+  written_is : setting_at c p ≡ Some s
   unfolding setting_at append_of
   written_is = rw (body_in mid (omega (arith, mid_long))) (read_back s held whole)
 

@@ -1,18 +1,15 @@
 -- Lists of the book's rules: how `first_fault` goes on, and what it means that all is fine.
 -- ---- one rule behind the other
-use Rattle.std.specs.Prelude.{ℕ, ◌*◌, ◌≤◌, ◌<◌, ◌≡◌, refl, List, [], ◌∷◌, ◌++◌, Bool, true, false, ◌&&◌, ltb, leb, eqb, length, if◌then◌else◌}
+use Rattle.std.specs.Prelude.{ℕ, ◌*◌, ◌≡◌, refl, List, [], ◌∷◌, ◌++◌, Bool, true, false, ◌&&◌, ltb, leb, eqb, length, if◌then◌else◌, Ok, Err}
 use Rattle.std.proofs.Common.{sym, leb-false, ltb-false, eqb-true, eq-eqb, le-ltb}
 use Rattle.std.proofs.lemmas.Bool.{not-false, lt-leb}
 use Rattle.choice.specs.Pick.{both, neither}
-use Rattle.model.specs.Arena.{cells_of, head_fits, shape_fits, is_stale, hold_in, is_live}
+use Rattle.model.specs.Arena.{cells_of, head_fits, shape_fits, hold_in, is_live}
 use Rattle.types.specs.declared.Head.{Head}
 use Rattle.types.specs.declared.Lease.{Lease}
-use Rattle.setpoint.specs.Codec.{has_body}
 use Rattle.setpoint.specs.declared.Setpoint.{Setpoint}
-use Rattle.book_rules.specs.Layout.{slots_of, front_of, is_sound}
+use Rattle.book_rules.specs.Layout.{slots_of, front_of}
 use Rattle.book_rules.specs.Rules.{BookRule, first_fault, is_bad_book, is_bad_slot, is_holder, claim_rules, open_rules}
-use Rattle.book_rules.specs.declared.BookCheck.{BookCheck}
-use Rattle.book_rules.specs.declared.BookCheck.TheVariants.{Fine, Fault}
 use Rattle.book_rules.specs.Fine.{or_then, BookFine, SlotFine, ClaimFine, OpenFine}
 
 pub faults_append : (xs ys : List BookRule) → first_fault (xs ++ ys) ≡ or_then (first_fault xs) (first_fault ys)
@@ -21,15 +18,15 @@ faults_append [] ys = refl
 faults_append (x ∷ xs) ys = go x.applies (faults_append xs ys)
   where
     go : (b : Bool) → first_fault (xs ++ ys) ≡ or_then (first_fault xs) (first_fault ys)
-        → (if b then Fault x.refusal else first_fault (xs ++ ys)) ≡ or_then (if b then Fault x.refusal else first_fault xs) (first_fault ys)
+        → (if b then Err x.refusal else first_fault (xs ++ ys)) ≡ or_then (if b then Err x.refusal else first_fault xs) (first_fault ys)
     go true e = refl
     go false e = e
 
-no_fault : (x : BookRule) (xs : List BookRule) → first_fault (x ∷ xs) ≡ Fine → (x.applies ≡ false) × (first_fault xs ≡ Fine)
+no_fault : (x : BookRule) (xs : List BookRule) → first_fault (x ∷ xs) ≡ Ok tt → (x.applies ≡ false) × (first_fault xs ≡ Ok tt)
 unfolding first_fault
 no_fault x xs e = go x.applies refl e
   where
-    go : (b : Bool) → x.applies ≡ b → (if b then Fault x.refusal else first_fault xs) ≡ Fine → (x.applies ≡ false) × (first_fault xs ≡ Fine)
+    go : (b : Bool) → x.applies ≡ b → (if b then Err x.refusal else first_fault xs) ≡ Ok tt → (x.applies ≡ false) × (first_fault xs ≡ Ok tt)
     go true p q = let z : false ≡ true = cc in (cc, cc)
     go false p q = (p, q)
 
@@ -66,7 +63,7 @@ pub fine_slot : (n size slot : ℕ) → SlotFine n size slot → is_bad_slot n s
 unfolding is_bad_slot is_bad_book
 fine_slot n size slot f = rw (le-ltb size (front_of n) f.room, le-ltb 32768 size f.limit, lt-leb n slot f.inside)
 
-pub claim_fine : (h : Head) (t : List ℕ) (size slot : ℕ) (l : Lease) (s : Setpoint) → first_fault (claim_rules h t size slot l s) ≡ Fine → ClaimFine h t size slot l s
+pub claim_fine : (h : Head) (t : List ℕ) (size slot : ℕ) (l : Lease) (s : Setpoint) → first_fault (claim_rules h t size slot l s) ≡ Ok tt → ClaimFine h t size slot l s
 unfolding claim_rules is_holder
 claim_fine h t size slot l s e =
     let a = no_fault _ _ e in
@@ -77,12 +74,12 @@ claim_fine h t size slot l s e =
     let v = both (is_live h.next (cells_of h) t (hold_in l)) (eqb l.cell slot) (not-false _ d.0) in
     record { shape = not-false _ a.0; slot_is = slot_fine (slots_of h) size slot b.0; fresh = c.0; live = v.0; own = eqb-true _ _ v.1; whole = not-false _ f.0 }
 
-pub fine_claim : (h : Head) (t : List ℕ) (size slot : ℕ) (l : Lease) (s : Setpoint) → ClaimFine h t size slot l s → first_fault (claim_rules h t size slot l s) ≡ Fine
+pub fine_claim : (h : Head) (t : List ℕ) (size slot : ℕ) (l : Lease) (s : Setpoint) → ClaimFine h t size slot l s → first_fault (claim_rules h t size slot l s) ≡ Ok tt
 unfolding claim_rules is_holder first_fault
 fine_claim h t size slot l s c =
     rw (c.shape, fine_slot (slots_of h) size slot c.slot_is, c.fresh, c.live, eq-eqb l.cell slot c.own, c.whole)
 
-pub open_fine : (h : Head) (b : List ℕ) (slot : ℕ) → first_fault (open_rules h b slot) ≡ Fine → OpenFine h b slot
+pub open_fine : (h : Head) (b : List ℕ) (slot : ℕ) → first_fault (open_rules h b slot) ≡ Ok tt → OpenFine h b slot
 unfolding open_rules
 open_fine h b slot e =
     let a = no_fault _ _ e in
@@ -90,6 +87,6 @@ open_fine h b slot e =
     let d = no_fault _ _ c.1 in
     record { head_fits_lem = not-false _ a.0; slot_is = slot_fine (slots_of h) (length b) slot c.0; sound = not-false _ d.0 }
 
-pub fine_open : (h : Head) (b : List ℕ) (slot : ℕ) → OpenFine h b slot → first_fault (open_rules h b slot) ≡ Fine
+pub fine_open : (h : Head) (b : List ℕ) (slot : ℕ) → OpenFine h b slot → first_fault (open_rules h b slot) ≡ Ok tt
 unfolding open_rules first_fault
 fine_open h b slot f = rw (f.head_fits_lem, fine_slot (slots_of h) (length b) slot f.slot_is, f.sound)

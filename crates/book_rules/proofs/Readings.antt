@@ -1,5 +1,5 @@
 -- What is read after a write, in two books: b before, c after.
-use Rattle.std.specs.Prelude.{ℕ, ◌+◌, ◌*◌, ◌-◌, ◌%◌, ◌≤◌, ◌<◌, ◌≡◌, refl, ◌≢◌, List, true, length, replicate}
+use Rattle.std.specs.Prelude.{ℕ, ◌+◌, ◌*◌, ◌-◌, ◌%◌, ◌≤◌, ◌<◌, ◌≡◌, refl, ◌≢◌, List, true, length, replicate, Option, Some, None, Ok, Err}
 use Rattle.std.proofs.Common.{sym, ◌∙◌, inl, inr, arith}
 use Rattle.std.proofs.Math.Path.{ap}
 use Rattle.std.proofs.Math.Decide.{dec_lt}
@@ -7,8 +7,6 @@ use Rattle.laws.specs.Lists.{zeros}
 use Rattle.model.specs.Arena.{head_fits}
 use Rattle.types.specs.declared.Head.{Head}
 use Rattle.setpoint.specs.declared.Setpoint.{Setpoint}
-use Rattle.setpoint.specs.declared.Decoded.{Decoded}
-use Rattle.setpoint.specs.declared.Decoded.TheVariants as decoded
 use Rattle.book_rules.specs.Layout.{slots_of, lines_of, front_of, place_at, version_at, newest_at, setting_at, is_setting, is_sound}
 use Rattle.book_rules.specs.Calls.{read_as, line_read, read_version_of}
 use Rattle.book_rules.specs.Sound.{Kept, Sound, Clean}
@@ -19,7 +17,7 @@ use Rattle.book_rules.proofs.Wrote.{Wrote}
 use Rattle.book_rules.specs.Outcomes.{Keeps}
 use Rattle.book_rules.proofs.Outcomes.{kept_or, read_kept, read_lost}
 use Rattle.book_rules.specs.Fine.{SlotFine}
-use Rattle.book_rules.specs.declared.BookAnswer.TheVariants.{Setting, Refused}
+use Rattle.book_rules.specs.declared.BookDone.TheVariants.{Setting}
 use Rattle.book_rules.specs.declared.BookRefusal.TheVariants.{NeverWritten}
 
 -- ---- the line of a kept version is used
@@ -33,12 +31,12 @@ kept_line n b slot w s i k =
     omega (arith, s.falls x (omega (arith, k.0, k.1, k.2)), ap (version_at b) top, k.0, k.1, k.2)
 
 -- so it tells a setpoint
-line_tells : (d : Decoded) (v : ℕ) → is_setting d ≡ true → (p : Setpoint) × (read_as d v ≡ Setting p v)
-line_tells (decoded.Setting p) v e = (p, refl)
-line_tells decoded.Damaged v e = let z : ◌≡◌ {A = ℕ} 0 1 = cc in absurd (omega arith)
+line_tells : (d : Option Setpoint) (v : ℕ) → is_setting d ≡ true → (p : Setpoint) × (read_as d v ≡ Ok (Setting p v))
+line_tells (Some p) v e = (p, refl)
+line_tells None v e = let z : ◌≡◌ {A = ℕ} 0 1 = cc in absurd (omega arith)
 
 pub kept_tells : (n : ℕ) (b : List ℕ) (slot w : ℕ) → Sound n b → slot < n → Keeps (newest_at b slot) w
-    → (p : Setpoint) × (line_read b (4 * slot + (newest_at b slot - w)) w ≡ Setting p w)
+    → (p : Setpoint) × (line_read b (4 * slot + (newest_at b slot - w)) w ≡ Ok (Setting p w))
 unfolding line_read
 kept_tells n b slot w s i k =
     let x = 4 * slot + (newest_at b slot - w) in
@@ -50,7 +48,7 @@ module _ (n : ℕ) (b c : List ℕ) (slot : ℕ) (s : Setpoint) (m : ℕ) (insid
   -- a line that stays tells what it told
   line_stays : (k w : ℕ) → k < lines_of n → k ≢ 4 * slot + 3 → Kept b k → line_read c (goes_of slot k) w ≡ line_read b k w
   unfolding line_read
-  line_stays k w h d q = ap (λ (x : Decoded). read_as x w) (setting_alike c b (place_at c (goes_of slot k)) (place_at b k) (r.bodies k h d q))
+  line_stays k w h d q = ap (λ (x : Option Setpoint). read_as x w) (setting_alike c b (place_at c (goes_of slot k)) (place_at b k) (r.bodies k h d q))
 
   pub newest_other : (t : ℕ) → t < n → t ≢ slot → newest_at c t ≡ newest_at b t
   newest_other t h d = go (dec_lt t slot)
@@ -79,12 +77,12 @@ module _ (n : ℕ) (b c : List ℕ) (slot : ℕ) (s : Setpoint) (m : ℕ) (insid
       ap (λ (u : ℕ). line_read c u w) g
       ∙ line_stays x w (omega (arith, k.0, k.1, k.2)) (omega (arith, k.0, k.1, k.2)) (omega (arith, kept_line n b slot w sound inside k, k.0))
 
-  new_read : line_read c (4 * slot + (newest_at c slot - (newest_at b slot + 1))) (newest_at b slot + 1) ≡ Setting s (newest_at b slot + 1)
+  new_read : line_read c (4 * slot + (newest_at c slot - (newest_at b slot + 1))) (newest_at b slot + 1) ≡ Ok (Setting s (newest_at b slot + 1))
   unfolding line_read
   new_read =
       let e : 4 * slot + (newest_at c slot - (newest_at b slot + 1)) ≡ 4 * slot = omega (arith, r.newest) in
       ap (λ (u : ℕ). read_as (setting_at c (place_at c u)) (newest_at b slot + 1)) e
-      ∙ ap (λ (x : Decoded). read_as x (newest_at b slot + 1)) r.written
+      ∙ ap (λ (x : Option Setpoint). read_as x (newest_at b slot + 1)) r.written
 
   -- ---- as the calls answer
 
@@ -128,13 +126,13 @@ module _ (n : ℕ) (b c : List ℕ) (slot : ℕ) (s : Setpoint) (m : ℕ) (insid
             (λ q. k (omega (arith, q.0), omega (arith, q.1, r.newest), omega (arith, q.2, r.newest)))
             ∙ sym (read_lost h b slot fits (fine_b slot inside) w sound_b k)
 
-    pub new_reads : read_version_of h c slot (newest_at b slot + 1) ≡ Setting s (newest_at b slot + 1)
+    pub new_reads : read_version_of h c slot (newest_at b slot + 1) ≡ Ok (Setting s (newest_at b slot + 1))
     new_reads =
         read_kept h c slot fits (fine_c slot inside) (newest_at b slot + 1) sound_c (omega arith, omega (arith, r.newest), omega (arith, r.newest))
         ∙ new_read
 
     -- what was dropped
-    pub dropped_reads : (w : ℕ) → w + 4 ≡ newest_at b slot + 1 → read_version_of h c slot w ≡ Refused NeverWritten
+    pub dropped_reads : (w : ℕ) → w + 4 ≡ newest_at b slot + 1 → read_version_of h c slot w ≡ Err NeverWritten
     dropped_reads w e = read_lost h c slot fits (fine_c slot inside) w sound_c (λ q. omega (arith, q.2, r.newest))
 
 -- ---- a prepared book

@@ -1,5 +1,5 @@
 -- A book that is not damaged: the test says just the facts of specs/Sound.antt.
-use Rattle.std.specs.Prelude.{ℕ, ◌+◌, ◌*◌, ◌-◌, ◌%◌, ◌≤◌, ◌<◌, refl, ◌≢◌, ◌⊎◌, List, Bool, not, ◌&&◌, ◌||◌, leb, get_or, if◌then◌else◌}
+use Rattle.std.specs.Prelude.{ℕ, ◌+◌, ◌*◌, ◌≤◌, ◌<◌, refl, ◌≢◌, List, Bool, not, ◌&&◌, ◌||◌, leb, get_or, if◌then◌else◌}
 use Rattle.std.proofs.Math.Path.{◌≡◌}
 use Rattle.std.proofs.Common.{sym, ap, ◌∙◌, inl, inr, arith}
 use Rattle.std.proofs.Math.Bool.{true, false}
@@ -10,7 +10,7 @@ use borrow.Author.Tests.{eqb-true, eqb-false, eq-eqb, ne_eqb, leb-true, le-leb, 
 use Rattle.choice.specs.Pick.{both, or_true}
 use Rattle.setpoint.specs.Codec.{join_of}
 use Rattle.book_rules.specs.Layout.{five_at, all, lines_of, front_of, place_at, length_at, version_at, is_kept, setting_at, is_setting, is_falling, is_fitting, is_apart, is_sound}
-use Rattle.book_rules.specs.Many.{all_each, each_all, Beside}
+use Rattle.book_rules.specs.Many.{all_each, each_all}
 use Rattle.book_rules.specs.Sound.{Kept, Apart, Fits, Sound, Alike}
 
 -- ---- kept or not

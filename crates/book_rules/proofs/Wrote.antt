@@ -1,5 +1,5 @@
 -- A write, where there is room: what it leaves, whether bodies slid or not.
-use Rattle.std.specs.Prelude.{ℕ, ◌+◌, ◌*◌, ◌-◌, ◌%◌, ◌≤◌, ◌<◌, ◌≡◌, ◌≢◌, ◌⊎◌, List, Bool, ◌&&◌, eqb, if◌then◌else◌}
+use Rattle.std.specs.Prelude.{ℕ, ◌+◌, ◌*◌, ◌-◌, ◌%◌, ◌≤◌, ◌<◌, ◌≡◌, ◌≢◌, ◌⊎◌, List, Bool, ◌&&◌, eqb, if◌then◌else◌, Some}
 use Rattle.std.proofs.Math.Path.{refl, ap}
 use Rattle.std.proofs.Common.{sym, ◌∙◌, inl, inr, arith}
 use Rattle.std.proofs.Math.Bool.{true, false, not}
@@ -10,7 +10,6 @@ use Rattle.choice.specs.Pick.{and_false}
 use Rattle.setpoint.specs.Codec.{has_body}
 use Rattle.setpoint.specs.RoundTrip.{Held}
 use Rattle.setpoint.specs.declared.Setpoint.{Setpoint}
-use Rattle.setpoint.specs.declared.Decoded.TheVariants as decoded
 use Rattle.book_rules.specs.Layout.{five_at, lines_of, front_of, place_at, version_at, is_kept, setting_at}
 use Rattle.book_rules.specs.Writing.{count, most, drop_oldest_of, kept_of, end_of, is_crowded, is_full, slid_of, moved_of, compact_of, append_of, put_over_of, put_of}
 use Rattle.book_rules.specs.Many.{count_same, count_none, most_start, most_each}
@@ -46,7 +45,7 @@ pub record Wrote (n : ℕ) (b c : List ℕ) (slot : ℕ) (s : Setpoint) (moved :
   pub sound : Sound n c
   pub clean : Clean n b → Clean n c
   pub newest : version_at c (4 * slot) ≡ version_at b (4 * slot) + 1
-  pub written : setting_at c (place_at c (4 * slot)) ≡ decoded.Setting s
+  pub written : setting_at c (place_at c (4 * slot)) ≡ Some s
   -- each line but the slot's oldest of four: its version, its five bytes, the order of places
   pub versions : (k : ℕ) → k < lines_of n → k ≢ 4 * slot + 3 → version_at c (goes_of slot k) ≡ version_at b k
   pub bodies : (k : ℕ) → k < lines_of n → k ≢ 4 * slot + 3 → Kept b k → five_at c (place_at c (goes_of slot k)) ≡ five_at b (place_at b k)

@@ -1,22 +1,17 @@
 -- Lists of the book's rules: how `first_fault` goes on, and what it means that all is fine.
 -- ---- one rule behind the other
-use Rattle.std.specs.Prelude.{ℕ, ◌*◌, ◌≤◌, ◌<◌, ◌≡◌, refl, List, [], ◌∷◌, ◌++◌, Bool, true, false, ◌&&◌, ltb, leb, eqb, length, if◌then◌else◌}
-use Rattle.std.proofs.Common.{sym, leb-false, ltb-false, eqb-true, eq-eqb, le-ltb}
-use Rattle.std.proofs.lemmas.Bool.{not-false, lt-leb}
-use Rattle.choice.specs.Pick.{both, neither}
+use Rattle.std.specs.Prelude.{ℕ, ◌≤◌, ◌<◌, ◌≡◌, List, true, false, length, Ok, Err}
 use Rattle.model.specs.Arena.{cells_of, head_fits, shape_fits, is_stale, hold_in, is_live}
 use Rattle.types.specs.declared.Head.{Head}
 use Rattle.types.specs.declared.Lease.{Lease}
 use Rattle.setpoint.specs.Codec.{has_body}
 use Rattle.setpoint.specs.declared.Setpoint.{Setpoint}
 use Rattle.book_rules.specs.Layout.{slots_of, front_of, is_sound}
-use Rattle.book_rules.specs.Rules.{BookRule, first_fault, is_bad_book, is_bad_slot, is_holder, claim_rules, open_rules}
-use Rattle.book_rules.specs.declared.BookCheck.{BookCheck}
-use Rattle.book_rules.specs.declared.BookCheck.TheVariants.{Fine, Fault}
+use Rattle.book_rules.specs.Rules.{BookCheck}
 
 abbrev pub or_then : BookCheck → BookCheck → BookCheck
-or_then Fine d = d
-or_then (Fault r) d = Fault r
+or_then (Ok tt) d = d
+or_then (Err r) d = Err r
 
 -- ---- what a call knows once its checks are fine
 

@@ -1,10 +1,9 @@
 -- Document 02, L2 and L10: where lines and bodies stand in the book, what they say, and what is damage.
-use Rattle.std.specs.Prelude.{ℕ, zero, suc, ◌+◌, ◌*◌, ◌-◌, ◌/◌, ◌%◌, min, List, [], ◌∷◌, Bool, true, false, not, ◌&&◌, ◌||◌, leb, eqb, length, get_or, if◌then◌else◌}
+use Rattle.std.specs.Prelude.{ℕ, zero, suc, ◌+◌, ◌*◌, ◌-◌, ◌/◌, ◌%◌, min, List, [], ◌∷◌, Bool, true, false, not, ◌&&◌, ◌||◌, leb, eqb, length, get_or, if◌then◌else◌, Option, Some, None}
 use Rattle.model.specs.Arena.{cells_of}
 use Rattle.types.specs.declared.Head.{Head}
+use Rattle.setpoint.specs.declared.Setpoint.{Setpoint}
 use Rattle.setpoint.specs.Codec.{join_of, decode_of}
-use Rattle.setpoint.specs.declared.Decoded.{Decoded}
-use Rattle.setpoint.specs.declared.Decoded.TheVariants as decoded
 
 -- L2: "one slot for each cell, at most the first 64"
 abbrev pub slots_of : Head → ℕ
@@ -53,12 +52,12 @@ unfoldable pub is_kept : List ℕ → ℕ → Bool
 is_kept b k = not (eqb (version_at b k) 0)
 
 -- what the five bytes from p on mean
-unfoldable pub setting_at : List ℕ → ℕ → Decoded
+unfoldable pub setting_at : List ℕ → ℕ → Option Setpoint
 setting_at b p = decode_of (five_at b p)
 
-abbrev pub is_setting : Decoded → Bool
-is_setting (decoded.Setting s) = true
-is_setting decoded.Damaged = false
+abbrev pub is_setting : Option Setpoint → Bool
+is_setting (Some s) = true
+is_setting None = false
 
 -- the line of a body at a place
 unfoldable pub line_of : ℕ → ℕ → List ℕ

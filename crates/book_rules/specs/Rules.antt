@@ -1,5 +1,5 @@
 -- Document 02, L2 and L10: the refusals of the book's calls, in order, as lists of rules; the first that applies is given.
-use Rattle.std.specs.Prelude.{ℕ, ◌+◌, List, [], ◌∷◌, ◌++◌, Bool, not, ◌&&◌, ◌||◌, ltb, leb, eqb, length, if◌then◌else◌}
+use Rattle.std.specs.Prelude.{ℕ, ◌+◌, List, [], ◌∷◌, ◌++◌, Bool, not, ◌&&◌, ◌||◌, ltb, leb, eqb, length, if◌then◌else◌, Result, Ok, Err}
 use Rattle.model.specs.Arena.{cells_of, head_fits, shape_fits, is_stale, hold_in, is_live}
 use Rattle.types.specs.declared.Head.{Head}
 use Rattle.types.specs.declared.Hold.{Hold}
@@ -8,10 +8,16 @@ use Rattle.setpoint.specs.Codec.{has_body}
 use Rattle.setpoint.specs.declared.Setpoint.{Setpoint}
 use Rattle.book_rules.specs.Layout.{slots_of, front_of, newest_at, is_sound}
 use Rattle.book_rules.specs.Writing.{drop_oldest_of, is_full}
-use Rattle.book_rules.specs.declared.BookCheck.{BookCheck}
-use Rattle.book_rules.specs.declared.BookCheck.TheVariants.{Fine, Fault}
+use Rattle.book_rules.specs.declared.BookDone.{BookDone}
 use Rattle.book_rules.specs.declared.BookRefusal.{BookRefusal}
 use Rattle.book_rules.specs.declared.BookRefusal.TheVariants.{BadShape, BadSlot, StaleBoot, NotHeld, NotFinite, DamagedBook, VersionsSpent, BookFull, NeverWritten}
+
+-- a call's answer, and what the checks of a call come to
+abbrev pub BookAnswer : Type 0
+BookAnswer = Result BookDone BookRefusal
+
+abbrev pub BookCheck : Type 0
+BookCheck = Result Unit BookRefusal
 
 -- a rule: a refusal, and the test that makes it apply
 pub record BookRule : Type 0 where
@@ -24,13 +30,13 @@ refuse r when b = record { refusal = r; applies = b }
 
 -- "Its refusals in order": the first rule that applies
 unfoldable pub first_fault : List BookRule → BookCheck
-first_fault [] = Fine
-first_fault (r ∷ rs) = if r.applies then Fault r.refusal else first_fault rs
+first_fault [] = Ok tt
+first_fault (r ∷ rs) = if r.applies then Err r.refusal else first_fault rs
 
 -- a call: refused, or its steps
 abbrev pub judge_book : {A : Type 0} → BookCheck → (BookRefusal → A) → A → A
-judge_book Fine refused steps = steps
-judge_book (Fault r) refused steps = refused r
+judge_book (Ok tt) refused steps = steps
+judge_book (Err r) refused steps = refused r
 
 -- ---- 1: of what a call takes, head and table or the head alone
 

@@ -1,16 +1,10 @@
 -- A book that is not damaged, as facts about its lines and bodies.
-use Rattle.std.specs.Prelude.{ℕ, ◌+◌, ◌*◌, ◌-◌, ◌%◌, ◌≤◌, ◌<◌, refl, ◌≢◌, ◌⊎◌, List, Bool, not, ◌&&◌, ◌||◌, leb, get_or, if◌then◌else◌}
+use Rattle.std.specs.Prelude.{ℕ, ◌+◌, ◌-◌, ◌%◌, ◌≤◌, ◌<◌, ◌≢◌, ◌⊎◌, List, get_or}
 use Rattle.std.proofs.Math.Path.{◌≡◌}
-use Rattle.std.proofs.Common.{sym, ap, ◌∙◌, inl, inr, arith}
-use Rattle.std.proofs.Math.Bool.{true, false}
-use Rattle.std.proofs.Math.Decide.{dec_lt}
-use Rattle.std.proofs.Math.Dec.{eqb}
+use Rattle.std.proofs.Math.Bool.{true}
 use Rattle.std.proofs.Math.ListN.{length}
-use borrow.Author.Tests.{eqb-true, eqb-false, eq-eqb, ne_eqb, leb-true, le-leb, not-true, not-false}
-use Rattle.choice.specs.Pick.{both, or_true}
-use Rattle.setpoint.specs.Codec.{join_of}
-use Rattle.book_rules.specs.Layout.{five_at, all, lines_of, front_of, place_at, length_at, version_at, is_kept, setting_at, is_setting, is_falling, is_fitting, is_apart, is_sound}
-use Rattle.book_rules.specs.Many.{all_each, each_all, Beside}
+use Rattle.book_rules.specs.Layout.{lines_of, front_of, place_at, length_at, version_at, setting_at, is_setting}
+use Rattle.book_rules.specs.Many.{Beside}
 
 abbrev pub Kept : List ℕ → ℕ → Type 0
 Kept b k = 1 ≤ version_at b k

@@ -1,6 +1,6 @@
 -- A run of stores, byte by byte: what stands inside it, and what stands outside.
-use Rattle.std.specs.Prelude.{◌≡◌, refl, ℕ, zero, suc, ◌+◌, ◌≤◌, ◌<◌, List, [], ◌∷◌, length, get_or, set, drop}
-use Rattle.std.proofs.Common.{ap, ◌∙◌, arith, length-set, drop_of_length-le, drop-cons, get_or-set_same, get_or-set_other}
+use Rattle.std.specs.Prelude.{◌≡◌, refl, ℕ, zero, suc, ◌+◌, ◌≤◌, ◌<◌, List, [], ◌∷◌, length, get_or, set}
+use Rattle.std.proofs.Common.{◌∙◌, arith, length-set, get_or-set_same, get_or-set_other}
 use Rattle.std.proofs.lemmas.List.Edits.{sets}
 use Rattle.book_rules.specs.Layout.{five_at}
 
@@ -34,19 +34,3 @@ five_in b p x0 x1 x2 x3 x4 l =
       sets_in xs b p 3 (p + 3) refl (omega arith) (omega arith),
       sets_in xs b p 4 (p + 4) refl (omega arith) (omega arith),
     )
-
--- ---- a store at a time: what is still to be stored from index i on
-
-pub stores_more : (b xs : List ℕ) (p i : ℕ) → i < length xs → sets b (p + i) (drop i xs) ≡ sets (set b (p + i) (get_or xs i 0)) (p + (i + 1)) (drop (i + 1) xs)
-stores_more b xs p i l =
-    let e : suc (p + i) ≡ p + (i + 1) = omega arith in
-    let f : suc i ≡ i + 1 = omega arith in
-    ap (sets b (p + i)) (drop-cons xs i 0 l)
-    ∙ ap (λ (q : ℕ). sets (set b (p + i) (get_or xs i 0)) q (drop (suc i) xs)) e
-    ∙ ap (λ (k : ℕ). sets (set b (p + i) (get_or xs i 0)) (p + (i + 1)) (drop k xs)) f
-
-pub stores_end : (b xs : List ℕ) (p i : ℕ) → length xs ≤ i → sets b (p + i) (drop i xs) ≡ b
-stores_end b xs p i l = ap (sets b (p + i)) (drop_of_length-le xs l)
-
-pub stores_start : (b xs : List ℕ) (p : ℕ) → sets b (p + 0) (drop 0 xs) ≡ sets b p xs
-stores_start b xs p = let e : p + 0 ≡ p = omega arith in ap (λ (q : ℕ). sets b q xs) e

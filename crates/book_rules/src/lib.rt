@@ -6,7 +6,7 @@ use setpoint::Setpoint;
 
 // The refusals of the book's calls. BadShape is document 01's number 1, NotHeld its 12 and StaleBoot document
 // 02's 16 (L8); the others have no number.
-#[derive(Clone, Copy)]
+#[derive(Clone, Copy, Debug, PartialEq, Eq)]
 pub enum BookRefusal {
     BadShape,
     BadSlot,
@@ -19,18 +19,16 @@ pub enum BookRefusal {
     NeverWritten,
 }
 
-// A call's answer. `Written` gives the new version and the bytes moved, `Setting` the setpoint and its version.
+// What a call that is not refused tells: `Written` the new version and the bytes moved, `Setting` the setpoint and its
+// version.
 #[derive(Clone, Copy)]
-pub enum BookAnswer {
+pub enum BookDone {
     Done,
     Written(u32, u32),
     Setting(Setpoint, u32),
-    Refused(BookRefusal),
 }
 
-// What the checks of a call come to.
-#[derive(Clone, Copy)]
-pub enum BookCheck {
-    Fine,
-    Fault(BookRefusal),
-}
+// A call's answer, and what the checks of a call come to.
+pub type BookAnswer = Result<BookDone, BookRefusal>;
+
+pub type BookCheck = Result<(), BookRefusal>;

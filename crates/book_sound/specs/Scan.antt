@@ -343,9 +343,6 @@ pub scan_end : (n : ℕ) (b : List ℕ) (k : ℕ) (marks : List ℕ) → lines_o
 unfolding scan_of
 scan_end n b k marks l = let e : lines_of n - k ≡ 0 = omega arith in rw e
 
-pub scan_start : (n : ℕ) (b marks : List ℕ) → scan_of n b (lines_of n - 0) 0 marks ≡ scan_of n b (lines_of n) 0 marks
-scan_start n b marks = let e : lines_of n - 0 ≡ lines_of n = omega arith in ap (λ (x : ℕ). scan_of n b x 0 marks) e
-
 -- ---- what a line wants of the next one's version
 
 -- line k, unless it is a slot's first, has this version if it falls

@@ -1,5 +1,7 @@
 // Whether a setpoint book is damaged (document 02, L10), in one pass over its lines, and the numbers of a line.
 // Functions with a `requires` are parts: calls have tested the head, the book's length and the slot.
+// (d) n stands beside the book in each promise, with its limits: all definitions take it as a number, and a type for it
+// would be opened at each.
 #![tactic(auto)]
 
 ghost use Rattle.std.specs.Prelude.{◌≡◌, ◌+◌, ◌-◌, ◌*◌, ◌<◌, ◌≤◌, length};
@@ -7,28 +9,29 @@ ghost use Rattle.book_rules.specs.Layout.{lines_of, front_of, place_at, length_a
 ghost use Rattle.book_rules.specs.Layout.{is_kept, is_falling, is_fitting, is_sound};
 ghost use Rattle.book_sound.specs.Scan.{is_clear, scan_of, Wanted};
 
-use setpoint::Decoded;
+use setpoint::Setpoint;
 
 // The place in line k.
 pub fn place_at(book: &[u8], k: usize) -> u32
     requires { 8 * k + 8 ≤ length book.now }
     ensures { result ≡ place_at book.now k }
 {
-    setpoint::join(book[8 * k], book[8 * k + 1], 0, 0)
+    u32::from(u16::from_le_bytes([book[8 * k], book[8 * k + 1]]))
 }
 
 // Its place and its length as one number: 65,536 times the length, and the place.
+// (d) Like `version_at` but for a 4: four indices of one line are plainer than a place to add.
 fn word_at(book: &[u8], k: usize) -> u32
     requires { 8 * k + 8 ≤ length book.now }
     ensures { (result ≡ place_at book.now k + 65536 * length_at book.now k)
         × (place_at book.now k < 65536) }
 {
-    setpoint::join(
+    u32::from_le_bytes([
         book[8 * k],
         book[8 * k + 1],
         book[8 * k + 2],
         book[8 * k + 3],
-    )
+    ])
 }
 
 // Its version.
@@ -36,12 +39,12 @@ pub fn version_at(book: &[u8], k: usize) -> u32
     requires { 8 * k + 8 ≤ length book.now }
     ensures { result ≡ version_at book.now k }
 {
-    setpoint::join(
+    u32::from_le_bytes([
         book[8 * k + 4],
         book[8 * k + 5],
         book[8 * k + 6],
         book[8 * k + 7],
-    )
+    ])
 }
 
 // Whether line k is used.
@@ -49,22 +52,7 @@ pub fn is_kept(book: &[u8], k: usize) -> bool
     requires { 8 * k + 8 ≤ length book.now }
     ensures { result ≡ is_kept book.now k }
 {
-    if version_at(book, k) == 0 {
-        return false;
-    }
-    true
-}
-
-// The version that the line behind k has if it is of the same slot: one less, or 0.
-fn version_below(book: &[u8], k: usize) -> u32
-    requires { 8 * k + 8 ≤ length book.now }
-    ensures { result ≡ version_at book.now k - 1 }
-{
-    let version = version_at(book, k);
-    if version == 0 {
-        return 0;
-    }
-    version - 1
+    version_at(book, k) != 0
 }
 
 // Whether the version in line k is as far below its slot's newest as the line is: what the line before wants of it.
@@ -73,14 +61,11 @@ fn is_falling(book: &[u8], k: usize, wanted: u32) -> bool
     requires wanted { Wanted book.now k wanted }
     ensures { result ≡ is_falling book.now k }
 {
-    if k % 4 == 0 {
-        return true;
-    }
-    version_at(book, k) == wanted
+    k % 4 == 0 || version_at(book, k) == wanted
 }
 
 // What the five bytes from p on mean.
-pub fn setting_at(book: &[u8], p: usize) -> Decoded
+pub fn setting_at(book: &[u8], p: usize) -> Option<Setpoint>
     requires { p + 5 ≤ length book.now }
     ensures { result ≡ setting_at book.now p }
 {
@@ -88,31 +73,9 @@ pub fn setting_at(book: &[u8], p: usize) -> Decoded
     setpoint::setting(book[p], word)
 }
 
-// Whether they mean a setpoint.
-fn is_setting(book: &[u8], p: usize) -> bool
-    requires { p + 5 ≤ length book.now }
-    ensures { result ≡ is_setting (setting_at book.now p) }
-{
-    let found = setting_at(book, p);
-    match found {
-        Decoded::Setting(_) => true,
-        Decoded::Damaged => false,
-    }
-}
-
-// Of a book of n slots, how many places behind the contents have five bytes.
-fn places(n: usize, size: usize) -> usize
-    requires { n ≤ 64 }
-    ensures { result ≡ size - front_of n - 4 }
-{
-    if size < 32 * n + 4 {
-        return 0;
-    }
-    size - 32 * n - 4
-}
-
-// Whether line k of n slots, and its body, fit the rules. Its word less the least one that fits, which wraps below 0,
-// is below the number of places only if length and place both fit.
+// Whether line k of n slots, and its body, fit the rules; `places` says how many places behind the contents have five
+// bytes. Its word less the least one that fits, which wraps below 0, is below that number only if length and place
+// both fit.
 fn is_fitting(n: usize, places: usize, book: &[u8], k: usize) -> bool
     requires n_bound { n ≤ 64 }
     requires k_in_bounds { 8 * k + 8 ≤ length book.now }
@@ -121,14 +84,11 @@ fn is_fitting(n: usize, places: usize, book: &[u8], k: usize) -> bool
     ensures { result ≡ is_fitting n book.now k }
 {
     let word = word_at(book, k);
-    if is_kept(book, k) {
-        let d = std::num::wrapping_sub_usize(word as usize, 327680 + 32 * n);
-        if d < places {
-            return is_setting(book, 32 * n + d);
-        }
-        return false;
+    if !is_kept(book, k) {
+        return word == 0;
     }
-    word == 0
+    let d = (word as usize).wrapping_sub(327680 + 32 * n);
+    d < places && setting_at(book, 32 * n + d).is_some()
 }
 
 // How far behind the contents the body of a line that fits stands.
@@ -148,19 +108,12 @@ fn is_clear(marks: &[u8], c: usize, r: u8) -> bool
     requires r_bound { r < 5 }
     ensures { result ≡ is_clear marks.now c r }
 {
-    if marks[c + 1] == 0 {
-        if marks[c] <= r + 1 {
-            if marks[c + 2] == 0 {
-                return true;
-            }
-            return r + 1 <= marks[c + 2];
-        }
-    }
-    false
+    marks[c + 1] == 0 && marks[c] <= r + 1 && (marks[c + 2] == 0 || r + 1 <= marks[c + 2])
 }
 
 // Whether no line or kept body fits no rule, and no two bodies overlap, with marks that begin as zeros: from line 0 on,
 // each line fits, and its body overlaps none of a line before. The marks become those of the lines seen.
+// (a) A mark stays a byte, 0 for none: memory is fixed, an `Option<u8>` is two, and marks are most of a write's stack.
 pub fn scan(n: usize, book: &[u8], marks: &mut [u8]) -> bool
     requires n_bound { n ≤ 64 }
     requires n_in_bounds { front_of n ≤ length book.now }
@@ -168,29 +121,22 @@ pub fn scan(n: usize, book: &[u8], marks: &mut [u8]) -> bool
     requires in_bounds { 6550 ≤ length marks.old }
     ensures { (result, marks.new) ≡ scan_of n book.now (lines_of n) 0 marks.old }
 {
-    let places = places(n, book.len());
+    let places = book.len().saturating_sub(32 * n + 4);
     let mut wanted = 0;
-    let mut k = 0;
-    while k < 4 * n {
-        if is_falling(book, k, wanted) {
-            if is_fitting(n, places, book, k) {
-                wanted = version_below(book, k);
-                if is_kept(book, k) {
-                    let d = behind(n, book, k);
-                    let c = (d / 5) as usize;
-                    let r = (d % 5) as u8;
-                    if is_clear(marks, c, r) {
-                        marks[c + 1] = r + 1;
-                        k += 1;
-                        continue;
-                    }
-                    return false;
-                }
-                k += 1;
-                continue;
-            }
+    for k in 0..4 * n {
+        if !is_falling(book, k, wanted) || !is_fitting(n, places, book, k) {
+            return false;
         }
-        return false;
+        wanted = version_at(book, k).saturating_sub(1);
+        if is_kept(book, k) {
+            let d = behind(n, book, k);
+            let c = usize::from(d / 5);
+            let r = (d % 5) as u8;
+            if !is_clear(marks, c, r) {
+                return false;
+            }
+            marks[c + 1] = r + 1;
+        }
     }
     true
 }

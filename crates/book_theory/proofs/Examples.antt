@@ -1,7 +1,7 @@
 -- Examples that meet the premises of each theorem, so that none speaks of nothing. By computation, on an arena of one header with two buckets:
 -- two slots, a book of 84 bytes, which has room for four bodies; boot number 6.
 -- ---- a day
-use Rattle.std.specs.Prelude.{ℕ, zero, suc, ◌<◌, ◌≡◌, refl, ◌≢◌, ◌↔◌, List, [], ◌∷◌, ◌++◌, Bool, true, ◌&&◌, ltb, length, get_or, replicate, set, if◌then◌else◌}
+use Rattle.std.specs.Prelude.{ℕ, zero, suc, ◌<◌, ◌≡◌, refl, ◌≢◌, ◌↔◌, List, [], ◌∷◌, ◌++◌, Bool, true, ◌&&◌, ltb, length, get_or, replicate, set, if◌then◌else◌, Ok, Err}
 use Rattle.std.proofs.Common.{sym, ap, ◌∙◌, subst, inr, arith, ltb-true}
 use Rattle.std.specs.Float.{binary32}
 use Rattle.std.specs.Float.Ieee.{of_bits, to_bits}
@@ -24,7 +24,7 @@ use Rattle.book_rules.specs.Rules.{first_fault, is_bad_book, is_bad_slot, is_hol
 use Rattle.book_rules.specs.Calls.{prepare_book_of, write_setpoint_of, line_read, read_version_of, read_setpoint_of}
 use Rattle.book_rules.specs.Sound.{Sound}
 use Rattle.book_rules.specs.Outcomes.{Keeps}
-use Rattle.book_rules.specs.declared.BookAnswer.TheVariants.{Done, Written, Setting, Refused}
+use Rattle.book_rules.specs.declared.BookDone.TheVariants.{Done, Written, Setting}
 use Rattle.book_rules.specs.declared.BookRefusal.TheVariants.{StaleBoot, NotHeld, DamagedBook, BookFull, NeverWritten}
 use Rattle.history.specs.World.{World, world_of}
 use Rattle.history.specs.Items.{call, try_acquire, drop_lease, preparation, preparation_over, perform, cold, next_item, preparing}
@@ -43,7 +43,7 @@ pub boot_done : (preparing 1 2 1 6 rubbish.table rubbish.health).0 ≡ answer.Do
 unfolding preparing prepare_of prepare_rules first head_fits shape_fits health_fits
 boot_done = refl
 
-pub book_done : (preparing_book fresh).0 ≡ Done
+pub book_done : (preparing_book fresh).0 ≡ Ok Done
 unfolding run_shift next_shift next_item preparing perform prepare_of prepare_rules first head_fits shape_fits health_fits try_acquire_of acquire_of drop_lease_of cell_rules lease_rules take_of set_cell bit_at owner_at is_free is_held state_of state_at is_live prepare_book_of book_rules first_fault is_bad_book is_bad_slot is_holder write_setpoint_of claim_rules over_rules read_setpoint_of read_version_of open_rules kept_rules is_gone line_read is_finite is_sound is_falling is_fitting is_apart all place_at length_at version_at is_kept setting_at count most put_many drop_oldest_of kept_of end_of is_crowded is_full rank_of slid_of moved_of erased_of laid_of compact_of append_of put_over_of put_of join_of setting_of decode_of line_at five_at line_of body_of bytes_of of_bits to_bits
 book_done = refl
 
@@ -63,13 +63,13 @@ same = subst (λ (n : ℕ). SameSlots n (next_shift fresh prepare_book) day) (sy
 
 -- ---- `prepared_reads_nothing`
 
-pub nothing_yet : (reading (next_shift fresh prepare_book) 1 ≡ Refused NeverWritten) × (reading_version (next_shift fresh prepare_book) 1 1 ≡ Refused NeverWritten)
+pub nothing_yet : (reading (next_shift fresh prepare_book) 1 ≡ Err NeverWritten) × (reading_version (next_shift fresh prepare_book) 1 1 ≡ Err NeverWritten)
 nothing_yet = prepared_reads_nothing fresh 1 1 book_done (omega (arith, fresh_slots))
 
 -- ---- `reads_last_write`, `reads_newest_four`, `never_exactly`: slot 1 has the fifth write's setpoint, over both preparations of the arena, and its
 -- second is kept, its first not; slot 0 has none
 
-pub last_is : (reading the_day 1 ≡ Setting (Speed 5) 5) × (reading the_day 0 ≡ Refused NeverWritten)
+pub last_is : (reading the_day 1 ≡ Ok (Setting (Speed 5) 5)) × (reading the_day 0 ≡ Err NeverWritten)
 unfolding settings
 last_is =
     let r = subst (λ (v : Shift). (slot : ℕ) → slot < slots_in v → reading v slot ≡ newest_read (settings slot v.entries))
@@ -82,40 +82,40 @@ second_is =
     subst (λ (v : Shift). (slot w : ℕ) → slot < slots_in v → reading_version v slot w ≡ version_read (settings slot v.entries) w)
     day_is (reads_newest_four fresh day book_done same values) 1 2 (omega arith)
 
-pub first_is : reading_version the_day 1 1 ≡ Refused NeverWritten
+pub first_is : reading_version the_day 1 1 ≡ Err NeverWritten
 unfolding settings
 first_is =
-    (subst (λ (v : Shift). (slot w : ℕ) → slot < slots_in v → (reading_version v slot w ≡ Refused NeverWritten) ↔ (Keeps (length (settings slot v.entries)) w → ⊥))
+    (subst (λ (v : Shift). (slot w : ℕ) → slot < slots_in v → (reading_version v slot w ≡ Err NeverWritten) ↔ (Keeps (length (settings slot v.entries)) w → ⊥))
     day_is (never_exactly fresh day book_done same values) 1 1 (omega arith)).1 (λ q. omega (arith, q.2))
 
 -- ---- `never_damaged`
 
-pub sound_day : (reading the_day 1 ≢ Refused DamagedBook) × ((writing the_day 1 other_lease bar).0 ≢ Refused DamagedBook)
+pub sound_day : (reading the_day 1 ≢ Err DamagedBook) × ((writing the_day 1 other_lease bar).0 ≢ Err DamagedBook)
 sound_day =
     let d = subst (λ (v : Shift).
-    ((slot : ℕ) → reading v slot ≢ Refused DamagedBook)
-    × ((slot w : ℕ) → reading_version v slot w ≢ Refused DamagedBook)
-    × ((slot : ℕ) (l : Lease) (p : Setpoint) → (writing v slot l p).0 ≢ Refused DamagedBook)) day_is (never_damaged fresh day book_done same values) in
+    ((slot : ℕ) → reading v slot ≢ Err DamagedBook)
+    × ((slot w : ℕ) → reading_version v slot w ≢ Err DamagedBook)
+    × ((slot : ℕ) (l : Lease) (p : Setpoint) → (writing v slot l p).0 ≢ Err DamagedBook)) day_is (never_damaged fresh day book_done same values) in
     (d.0 1, d.2 1 other_lease bar)
 
 pub same_day : run_shift (shift_of fresh.course blots []) (prepare_book ∷ day) ≡ the_day
 unfolding run_shift next_shift next_item preparing perform prepare_of prepare_rules first head_fits shape_fits health_fits try_acquire_of acquire_of drop_lease_of cell_rules lease_rules take_of set_cell bit_at owner_at is_free is_held state_of state_at is_live prepare_book_of book_rules first_fault is_bad_book is_bad_slot is_holder write_setpoint_of claim_rules over_rules read_setpoint_of read_version_of open_rules kept_rules is_gone line_read is_finite is_sound is_falling is_fitting is_apart all place_at length_at version_at is_kept setting_at count most put_many drop_oldest_of kept_of end_of is_crowded is_full rank_of slid_of moved_of erased_of laid_of compact_of append_of put_over_of put_of join_of setting_of decode_of line_at five_at line_of body_of bytes_of of_bits to_bits
 same_day = sym (forgets_older_bytes fresh.course old blots [] day refl book_done) ∙ day_is
 
-pub first_done : (writing first_write 1 one_lease bar).0 ≡ Written 1 0
+pub first_done : (writing first_write 1 one_lease bar).0 ≡ Ok (Written 1 0)
 unfolding run_shift next_shift next_item preparing perform prepare_of prepare_rules first head_fits shape_fits health_fits try_acquire_of acquire_of drop_lease_of cell_rules lease_rules take_of set_cell bit_at owner_at is_free is_held state_of state_at is_live prepare_book_of book_rules first_fault is_bad_book is_bad_slot is_holder write_setpoint_of claim_rules over_rules read_setpoint_of read_version_of open_rules kept_rules is_gone line_read is_finite is_sound is_falling is_fitting is_apart all place_at length_at version_at is_kept setting_at count most put_many drop_oldest_of kept_of end_of is_crowded is_full rank_of slid_of moved_of erased_of laid_of compact_of append_of put_over_of put_of join_of setting_of decode_of line_at five_at line_of body_of bytes_of of_bits to_bits
 first_done = refl
 
-pub second_done : (writing (run_shift first_write (write_setpoint 1 one_lease bar ∷ change)) 1 other_lease (Valve true)).0 ≡ Written 2 0
+pub second_done : (writing (run_shift first_write (write_setpoint 1 one_lease bar ∷ change)) 1 other_lease (Valve true)).0 ≡ Ok (Written 2 0)
 unfolding run_shift next_shift next_item preparing perform prepare_of prepare_rules first head_fits shape_fits health_fits try_acquire_of acquire_of drop_lease_of cell_rules lease_rules take_of set_cell bit_at owner_at is_free is_held state_of state_at is_live prepare_book_of book_rules first_fault is_bad_book is_bad_slot is_holder write_setpoint_of claim_rules over_rules read_setpoint_of read_version_of open_rules kept_rules is_gone line_read is_finite is_sound is_falling is_fitting is_apart all place_at length_at version_at is_kept setting_at count most put_many drop_oldest_of kept_of end_of is_crowded is_full rank_of slid_of moved_of erased_of laid_of compact_of append_of put_over_of put_of join_of setting_of decode_of line_at five_at line_of body_of bytes_of of_bits to_bits
 second_done = refl
 
 -- document 02, L8: with the same cell and serial from another boot it is not
-pub stale_refused : (writing first_write 1 (lease_of 1 1 5) bar).0 ≡ Refused StaleBoot
+pub stale_refused : (writing first_write 1 (lease_of 1 1 5) bar).0 ≡ Err StaleBoot
 unfolding run_shift next_shift next_item preparing perform prepare_of prepare_rules first head_fits shape_fits health_fits try_acquire_of acquire_of drop_lease_of cell_rules lease_rules take_of set_cell bit_at owner_at is_free is_held state_of state_at is_live prepare_book_of book_rules first_fault is_bad_book is_bad_slot is_holder write_setpoint_of claim_rules over_rules read_setpoint_of read_version_of open_rules kept_rules is_gone line_read is_finite is_sound is_falling is_fitting is_apart all place_at length_at version_at is_kept setting_at count most put_many drop_oldest_of kept_of end_of is_crowded is_full rank_of slid_of moved_of erased_of laid_of compact_of append_of put_over_of put_of join_of setting_of decode_of line_at five_at line_of body_of bytes_of of_bits to_bits
 stale_refused = refl
 
-pub holder : (one_lease.cell ≡ 1) × ((l : Lease) → (writing first_write 1 l bar).0 ≡ Written 1 0 → l ≡ one_lease)
+pub holder : (one_lease.cell ≡ 1) × ((l : Lease) → (writing first_write 1 l bar).0 ≡ Ok (Written 1 0) → l ≡ one_lease)
 holder = (
   (written_by_holder first_write.course.world first_write.book 1 one_lease bar 1 0 first_done).1,
   λ l e. one_writer first_write.course.world first_write.book first_write.book 1 l one_lease bar bar 1 1 0 0 e first_done,
@@ -133,19 +133,19 @@ pub evening_is : (run_shift fresh (prepare_book ∷ till_evening)).book ≡ at_e
 unfolding run_shift next_shift next_item preparing perform prepare_of prepare_rules first head_fits shape_fits health_fits try_acquire_of acquire_of drop_lease_of cell_rules lease_rules take_of set_cell bit_at owner_at is_free is_held state_of state_at is_live prepare_book_of book_rules first_fault is_bad_book is_bad_slot is_holder write_setpoint_of claim_rules over_rules read_setpoint_of read_version_of open_rules kept_rules is_gone line_read is_finite is_sound is_falling is_fitting is_apart all place_at length_at version_at is_kept setting_at count most put_many drop_oldest_of kept_of end_of is_crowded is_full rank_of slid_of moved_of erased_of laid_of compact_of append_of put_over_of put_of join_of setting_of decode_of line_at five_at line_of body_of bytes_of of_bits to_bits
 evening_is = refl
 
-pub slid : write_setpoint_of the_head the_table at_evening 1 other_lease (Speed 5) ≡ (Written 5 15, at_night)
+pub slid : write_setpoint_of the_head the_table at_evening 1 other_lease (Speed 5) ≡ (Ok (Written 5 15), at_night)
 unfolding run_shift next_shift next_item preparing perform prepare_of prepare_rules first head_fits shape_fits health_fits try_acquire_of acquire_of drop_lease_of cell_rules lease_rules take_of set_cell bit_at owner_at is_free is_held state_of state_at is_live prepare_book_of book_rules first_fault is_bad_book is_bad_slot is_holder write_setpoint_of claim_rules over_rules read_setpoint_of read_version_of open_rules kept_rules is_gone line_read is_finite is_sound is_falling is_fitting is_apart all place_at length_at version_at is_kept setting_at count most put_many drop_oldest_of kept_of end_of is_crowded is_full rank_of slid_of moved_of erased_of laid_of compact_of append_of put_over_of put_of join_of setting_of decode_of line_at five_at line_of body_of bytes_of of_bits to_bits
 slid = refl
 
-slid_done : (write_setpoint_of the_head the_table at_evening 1 other_lease (Speed 5)).0 ≡ Written 5 15
+slid_done : (write_setpoint_of the_head the_table at_evening 1 other_lease (Speed 5)).0 ≡ Ok (Written 5 15)
 slid_done = ap (λ (o : _ × List ℕ). o.0) slid
 
 -- `others_read_as_before`, `new_reads_as_written`, `oldest_is_dropped`
-pub after_slide : (read_version_of the_head at_night 1 3 ≡ read_version_of the_head at_evening 1 3) × (read_version_of the_head at_night 1 5 ≡ Setting (Speed 5) 5)
-    × (read_version_of the_head at_night 1 1 ≡ Refused NeverWritten)
+pub after_slide : (read_version_of the_head at_night 1 3 ≡ read_version_of the_head at_evening 1 3) × (read_version_of the_head at_night 1 5 ≡ Ok (Setting (Speed 5) 5))
+    × (read_version_of the_head at_night 1 1 ≡ Err NeverWritten)
 after_slide =
     subst (λ (c : List ℕ).
-    (read_version_of the_head c 1 3 ≡ read_version_of the_head at_evening 1 3) × (read_version_of the_head c 1 5 ≡ Setting (Speed 5) 5) × (read_version_of the_head c 1 1 ≡ Refused NeverWritten))
+    (read_version_of the_head c 1 3 ≡ read_version_of the_head at_evening 1 3) × (read_version_of the_head c 1 5 ≡ Ok (Setting (Speed 5) 5)) × (read_version_of the_head c 1 1 ≡ Err NeverWritten))
     (ap (λ (o : _ × List ℕ). o.1) slid) (
       others_read_as_before the_head the_table at_evening 1 other_lease (Speed 5) 5 15 (omega arith) slid_done 1 3 (inr (λ z. omega arith, λ z. omega arith)) (omega arith),
       new_reads_as_written the_head the_table at_evening 1 other_lease (Speed 5) 5 15 (omega arith) slid_done,
@@ -162,7 +162,7 @@ three_lengths =
 pub was_writable : Writable the_head the_table at_evening 1 other_lease (Speed 5)
 was_writable = ((done_exactly the_head the_table at_evening 1 other_lease (Speed 5)).0 (5, 15, slid_done)).0
 
-pub too_full : write_setpoint_of the_head the_table at_limit 1 other_lease (Speed 4) ≡ (Refused BookFull, at_limit)
+pub too_full : write_setpoint_of the_head the_table at_limit 1 other_lease (Speed 4) ≡ (Err BookFull, at_limit)
 unfolding run_shift next_shift next_item preparing perform prepare_of prepare_rules first head_fits shape_fits health_fits try_acquire_of acquire_of drop_lease_of cell_rules lease_rules take_of set_cell bit_at owner_at is_free is_held state_of state_at is_live prepare_book_of book_rules first_fault is_bad_book is_bad_slot is_holder write_setpoint_of claim_rules over_rules read_setpoint_of read_version_of open_rules kept_rules is_gone line_read is_finite is_sound is_falling is_fitting is_apart all place_at length_at version_at is_kept setting_at count most put_many drop_oldest_of kept_of end_of is_crowded is_full rank_of slid_of moved_of erased_of laid_of compact_of append_of put_over_of put_of join_of setting_of decode_of line_at five_at line_of body_of bytes_of of_bits to_bits
 too_full = refl
 

@@ -1,7 +1,7 @@
 -- Over a run of items, from a done preparation of the book: what each version of each slot says is what its done write put there, and what holds of
 -- the bytes.
 -- ---- what the settings of a slot tell
-use Rattle.std.specs.Prelude.{ℕ, suc, ◌+◌, ◌*◌, ◌-◌, ◌≤◌, ◌<◌, ◌%◌, ◌≡◌, refl, ◌≢◌, ◌⊎◌, ◌↔◌, List, [], ◌∷◌, Bool, true, false, eqb, length, get_or, replicate, if◌then◌else◌}
+use Rattle.std.specs.Prelude.{ℕ, suc, ◌+◌, ◌*◌, ◌-◌, ◌≤◌, ◌<◌, ◌%◌, ◌≡◌, refl, ◌≢◌, ◌⊎◌, ◌↔◌, List, [], ◌∷◌, Bool, true, false, eqb, length, get_or, replicate, if◌then◌else◌, Ok, Err}
 use Rattle.std.proofs.Common.{sym, ◌∙◌, subst, inl, inr, arith, eq-eqb, ne_eqb}
 use Rattle.std.proofs.Math.Path.{ap}
 use Rattle.std.proofs.Math.Decide.{ℕ_discrete, dec_lt}
@@ -15,7 +15,7 @@ use Rattle.setpoint.specs.declared.Setpoint.{Setpoint}
 use Rattle.setpoint.specs.declared.Setpoint.TheVariants.{Speed}
 use Rattle.book_rules.specs.Layout.{slots_of, lines_of, front_of, place_at, version_at, newest_at, is_sound}
 use Rattle.book_rules.specs.Writing.{put_of}
-use Rattle.book_rules.specs.Rules.{first_fault, is_bad_slot, open_rules, kept_rules}
+use Rattle.book_rules.specs.Rules.{BookAnswer, first_fault, is_bad_slot, open_rules, kept_rules}
 use Rattle.book_rules.specs.Calls.{write_setpoint_of, read_version_of, read_setpoint_of}
 use Rattle.book_rules.specs.Sound.{Kept, Apart, Sound, Clean}
 use Rattle.book_rules.proofs.Sound.{sound_is, is_sound_lem}
@@ -27,8 +27,7 @@ use Rattle.book_rules.proofs.Fine.{slot_fine}
 use Rattle.book_rules.specs.Outcomes.{Prepared, was_prepared, not_prepared, Keeps}
 use Rattle.book_rules.proofs.Outcomes.{preparing_is, prepare_alike, Outcome, done, full, refused, writing_is, kept_or, read_kept, read_lost}
 use Rattle.book_rules.proofs.Readings.{kept_tells, other_reads, own_reads, new_reads, dropped_reads, newest_other, version_zero, prepared_sound, prepared_clean}
-use Rattle.book_rules.specs.declared.BookAnswer.{BookAnswer}
-use Rattle.book_rules.specs.declared.BookAnswer.TheVariants.{Done, Written, Setting, Refused}
+use Rattle.book_rules.specs.declared.BookDone.TheVariants.{Done, Written, Setting}
 use Rattle.book_rules.specs.declared.BookRefusal.TheVariants.{BadShape, BadSlot, DamagedBook, NeverWritten}
 use Rattle.book_theory.specs.Items.{BookItem, arena_item, prepare_book, write_setpoint, read_setpoint, read_version, BookEntry, prepared, wrote, was_read, version_read_lem, Shift, shift_of, world_of, head_of_lem, slots_in, preparing_book, writing, reading, reading_version, next_shift, run_shift, settings_after, settings, newest_read, version_read, SameSlots, Typed, AllTyped}
 use Rattle.book_theory.specs.Statements.{PreparedReadsNothing, ForgetsOlderBytes, FromPrepared, ReadsLastWrite, ReadsNewestFour, NeverExactly, NeverDamaged, NeverOverlap, FreeAreZeros, NewerLieBehind, UntouchedOtherwise, Unprepared, DamageStays}
@@ -36,28 +35,28 @@ use Rattle.book_theory.specs.Heads.{item_fits}
 use Rattle.book_theory.specs.After.{refusal_in}
 use Rattle.book_theory.specs.Runs.{Keeping, added, Holding}
 
-version_kept : (ss : List Setpoint) (w : ℕ) → Keeps (length ss) w → version_read ss w ≡ Setting (get_or ss (length ss - w) (Speed 0)) w
+version_kept : (ss : List Setpoint) (w : ℕ) → Keeps (length ss) w → version_read ss w ≡ Ok (Setting (get_or ss (length ss - w) (Speed 0)) w)
 unfolding version_read
 version_kept ss w k = go (kept_or (length ss) w)
   where
-    go : (d : Dec (Keeps (length ss) w)) → elim d [ yes q ↦ Setting (get_or ss (length ss - w) (Speed 0)) w | no q ↦ Refused NeverWritten ] ≡ Setting (get_or ss (length ss - w) (Speed 0)) w
+    go : (d : Dec (Keeps (length ss) w)) → ◌≡◌ {A = BookAnswer} (elim d [ yes q ↦ Ok (Setting (get_or ss (length ss - w) (Speed 0)) w) | no q ↦ Err NeverWritten ]) (Ok (Setting (get_or ss (length ss - w) (Speed 0)) w))
     go (yes q) = refl
     go (no q) = absurd (q k)
 
-version_lost : (ss : List Setpoint) (w : ℕ) → (Keeps (length ss) w → ⊥) → version_read ss w ≡ Refused NeverWritten
+version_lost : (ss : List Setpoint) (w : ℕ) → (Keeps (length ss) w → ⊥) → version_read ss w ≡ Err NeverWritten
 unfolding version_read
 version_lost ss w k = go (kept_or (length ss) w)
   where
-    go : (d : Dec (Keeps (length ss) w)) → elim d [ yes q ↦ Setting (get_or ss (length ss - w) (Speed 0)) w | no q ↦ Refused NeverWritten ] ≡ Refused NeverWritten
+    go : (d : Dec (Keeps (length ss) w)) → ◌≡◌ {A = BookAnswer} (elim d [ yes q ↦ Ok (Setting (get_or ss (length ss - w) (Speed 0)) w) | no q ↦ Err NeverWritten ]) (Err NeverWritten)
     go (yes q) = absurd (k q)
     go (no q) = refl
 
 -- one setting more: the new one, the one that is lost, the others
-version_new : (ss : List Setpoint) (s : Setpoint) → version_read (s ∷ ss) (length ss + 1) ≡ Setting s (length ss + 1)
+version_new : (ss : List Setpoint) (s : Setpoint) → version_read (s ∷ ss) (length ss + 1) ≡ Ok (Setting s (length ss + 1))
 version_new ss s =
     let e : length (s ∷ ss) - (length ss + 1) ≡ 0 = omega arith in
     version_kept (s ∷ ss) (length ss + 1) (omega arith, omega arith, omega arith)
-    ∙ ap (λ (i : ℕ). Setting (get_or (s ∷ ss) i (Speed 0)) (length ss + 1)) e
+    ∙ ap (λ (i : ℕ). Ok (Setting (get_or (s ∷ ss) i (Speed 0)) (length ss + 1))) e
 
 version_older : (ss : List Setpoint) (s : Setpoint) (w : ℕ) → w ≢ length ss + 1 → w + 4 ≢ length ss + 1 → version_read (s ∷ ss) w ≡ version_read ss w
 version_older ss s w d e = go (kept_or (length ss) w)
@@ -66,7 +65,7 @@ version_older ss s w d e = go (kept_or (length ss) w)
     go (yes k) =
         let g : length (s ∷ ss) - w ≡ suc (length ss - w) = omega (arith, k.1) in
         version_kept (s ∷ ss) w (k.0, omega (arith, k.1), omega (arith, k.2))
-        ∙ ap (λ (i : ℕ). Setting (get_or (s ∷ ss) i (Speed 0)) w) g
+        ∙ ap (λ (i : ℕ). Ok (Setting (get_or (s ∷ ss) i (Speed 0)) w)) g
         ∙ sym (version_kept ss w k)
     go (no k) =
         version_lost (s ∷ ss) w (λ q. k (q.0, omega (arith, q.1), omega (arith, q.2))) ∙ sym (version_lost ss w k)
@@ -77,7 +76,7 @@ version_newest [] = version_lost [] 0 (λ q. omega (arith, q.0))
 version_newest (p ∷ ps) =
     let e : length (p ∷ ps) - length (p ∷ ps) ≡ 0 = omega arith in
     version_kept (p ∷ ps) (length (p ∷ ps)) (omega arith, omega arith, omega arith)
-    ∙ ap (λ (i : ℕ). Setting (get_or (p ∷ ps) i (Speed 0)) (length (p ∷ ps))) e
+    ∙ ap (λ (i : ℕ). Ok (Setting (get_or (p ∷ ps) i (Speed 0)) (length (p ∷ ps)))) e
 
 -- a done preparation begins it
 prepared_keeping : (n m : ℕ) → front_of n ≤ m → m ≤ 32768 → Keeping n (replicate m 0) (λ t. [])
@@ -120,7 +119,7 @@ module _ (n : ℕ) (b : List ℕ) (f : ℕ → List Setpoint) (g : Keeping n b f
       own : Dec (w ≡ newest_at b slot + 1) → Dec (w + 4 ≡ newest_at b slot + 1) → read_version_of p c slot w ≡ version_read (s ∷ f slot) w
       own (yes d) x =
           rw d (new_reads n b c slot s moved inside g.sound r p fits e g.room g.limit
-          ∙ subst (λ (y : ℕ). Setting s (y + 1) ≡ version_read (s ∷ f slot) (y + 1)) (sym u) (sym (version_new (f slot) s)))
+          ∙ subst (λ (y : ℕ). Ok (Setting s (y + 1)) ≡ version_read (s ∷ f slot) (y + 1)) (sym u) (sym (version_new (f slot) s)))
       own (no d) (yes x) =
           dropped_reads n b c slot s moved inside g.sound r p fits e g.room g.limit w x
           ∙ sym (version_lost (s ∷ f slot) w (λ q. omega (arith, q.2, u)))
@@ -197,7 +196,7 @@ module _ (n : ℕ) (b : List ℕ) (f : ℕ → List Setpoint) (g : Keeping n b f
       }
 
 begun : (h : Head) (b : List ℕ) (es : List BookEntry) → head_fits h ≡ true → BookFine (slots_of h) (length b)
-    → Holding (slots_of h) h (replicate (length b) 0) (prepared Done ∷ es)
+    → Holding (slots_of h) h (replicate (length b) 0) (prepared (Ok Done) ∷ es)
 unfolding settings
 begun h b es e f = record { head_fits_lem = e; slots_are = refl; book_is = prepared_keeping (slots_of h) (length b) f.room f.limit }
 
@@ -234,11 +233,11 @@ module _ (n : ℕ) (s : Shift) (k : Holding n (head_of_lem s) s.book s.entries) 
     where
       go : {o : BookAnswer × List ℕ} → Prepared (head_of_lem s) s.book o → Holding n (head_of_lem s) o.1 (prepared o.0 ∷ s.entries)
       go (was_prepared f g) =
-          subst (λ (m : ℕ). Holding m (head_of_lem s) (replicate (length s.book) 0) (prepared Done ∷ s.entries)) k.slots_are (begun (head_of_lem s) s.book s.entries f g)
-      go (not_prepared r) = idle (prepared (Refused r)) (λ slot a. refl) k
+          subst (λ (m : ℕ). Holding m (head_of_lem s) (replicate (length s.book) 0) (prepared (Ok Done) ∷ s.entries)) k.slots_are (begun (head_of_lem s) s.book s.entries f g)
+      go (not_prepared r) = idle (prepared (Err r)) (λ slot a. refl) k
 
   wrote_holds : (slot : ℕ) (l : Lease) (p : Setpoint) (v moved : ℕ) (c : List ℕ) → slot < slots_in s → Wrote (slots_in s) s.book c slot p moved
-      → Holding (slots_in s) (head_of_lem s) c (wrote slot l p (Written v moved) ∷ s.entries)
+      → Holding (slots_in s) (head_of_lem s) c (wrote slot l p (Ok (Written v moved)) ∷ s.entries)
   unfolding settings
   wrote_holds slot l p v moved c i r =
       record {
@@ -256,11 +255,11 @@ module _ (n : ℕ) (s : Shift) (k : Holding n (head_of_lem s) s.book s.entries) 
       go (done c f) =
           let v = newest_at s.book slot + 1 in
           let o = put_of (slots_in s) s.book slot p v in
-          subst (λ (m : ℕ). Holding m (head_of_lem s) o.1 (wrote slot l p (Written v o.0) ∷ s.entries)) k.slots_are
+          subst (λ (m : ℕ). Holding m (head_of_lem s) o.1 (wrote slot l p (Ok (Written v o.0)) ∷ s.entries)) k.slots_are
           (wrote_holds slot l p v o.0 o.1 c.given.slot_is.inside
           (put_wrote (slots_in s) s.book slot p c.given.slot_is.inside (sound_is (slots_in s) s.book c.sound) held c.given.whole f))
-      go (full c f) = idle (wrote slot l p (Refused _)) (λ t a. refl) k
-      go (refused r d g c) = idle (wrote slot l p (Refused r)) (λ t a. refl) k
+      go (full c f) = idle (wrote slot l p (Err _)) (λ t a. refl) k
+      go (refused r d g c) = idle (wrote slot l p (Err r)) (λ t a. refl) k
 
   item_holds : (i : BookItem) → slots_in (next_shift s i) ≡ n → Typed i
       → Holding n (head_of_lem (next_shift s i)) (next_shift s i).book (next_shift s i).entries
@@ -280,23 +279,23 @@ runs_hold n s [] k e t = k
 runs_hold n s (i ∷ is) k e t = runs_hold n (next_shift s i) is (item_holds n s k i e.0 t.0) e.1 t.1
 
 -- the state after a done preparation
-prepared_shift : (s : Shift) → (preparing_book s).0 ≡ Done
-    → next_shift s prepare_book ≡ shift_of s.course (replicate (length s.book) 0) (prepared Done ∷ s.entries)
+prepared_shift : (s : Shift) → (preparing_book s).0 ≡ Ok Done
+    → next_shift s prepare_book ≡ shift_of s.course (replicate (length s.book) 0) (prepared (Ok Done) ∷ s.entries)
 unfolding next_shift
 prepared_shift s d = go (preparing_is (head_of_lem s) s.book) d
   where
-    go : {o : BookAnswer × List ℕ} → Prepared (head_of_lem s) s.book o → o.0 ≡ Done
-        → shift_of s.course o.1 (prepared o.0 ∷ s.entries) ≡ shift_of s.course (replicate (length s.book) 0) (prepared Done ∷ s.entries)
+    go : {o : BookAnswer × List ℕ} → Prepared (head_of_lem s) s.book o → o.0 ≡ Ok Done
+        → shift_of s.course o.1 (prepared o.0 ∷ s.entries) ≡ shift_of s.course (replicate (length s.book) 0) (prepared (Ok Done) ∷ s.entries)
     go (was_prepared f g) e = refl
     go (not_prepared r) e = let z : ◌≡◌ {A = ℕ} 0 1 = cc in absurd (omega arith)
 
-prepared_holds : (s : Shift) → (preparing_book s).0 ≡ Done
+prepared_holds : (s : Shift) → (preparing_book s).0 ≡ Ok Done
     → let v = next_shift s prepare_book in Holding (slots_in s) (head_of_lem v) v.book v.entries
 prepared_holds s d =
     subst (λ (v : Shift). Holding (slots_in s) (head_of_lem v) v.book v.entries) (sym (prepared_shift s d)) (go (preparing_is (head_of_lem s) s.book) d)
   where
-    go : {o : BookAnswer × List ℕ} → Prepared (head_of_lem s) s.book o → o.0 ≡ Done
-        → Holding (slots_in s) (head_of_lem s) (replicate (length s.book) 0) (prepared Done ∷ s.entries)
+    go : {o : BookAnswer × List ℕ} → Prepared (head_of_lem s) s.book o → o.0 ≡ Ok Done
+        → Holding (slots_in s) (head_of_lem s) (replicate (length s.book) 0) (prepared (Ok Done) ∷ s.entries)
     go (was_prepared f g) e = begun (head_of_lem s) s.book s.entries f g
     go (not_prepared r) e = let z : ◌≡◌ {A = ℕ} 0 1 = cc in absurd (omega arith)
 
@@ -329,13 +328,13 @@ reads_newest_four = from_prepared _ version_holds
 pub never_exactly : NeverExactly
 never_exactly =
     from_prepared (λ v. (slot w : ℕ) → slot < slots_in v
-    → (reading_version v slot w ≡ Refused NeverWritten) ↔ (Keeps (length (settings slot v.entries)) w → ⊥)) exactly
+    → (reading_version v slot w ≡ Err NeverWritten) ↔ (Keeps (length (settings slot v.entries)) w → ⊥)) exactly
   where
-    setting_apart : (p : Setpoint) (w : ℕ) → Setting p w ≡ Refused NeverWritten → ⊥
+    setting_apart : (p : Setpoint) (w : ℕ) → Ok (Setting p w) ≡ Err NeverWritten → ⊥
     setting_apart p w e = let z : ◌≡◌ {A = ℕ} 0 1 = cc in omega arith
 
     exactly : (v : Shift) → Holding (slots_in v) (head_of_lem v) v.book v.entries
-        → (slot w : ℕ) → slot < slots_in v → (reading_version v slot w ≡ Refused NeverWritten) ↔ (Keeps (length (settings slot v.entries)) w → ⊥)
+        → (slot w : ℕ) → slot < slots_in v → (reading_version v slot w ≡ Err NeverWritten) ↔ (Keeps (length (settings slot v.entries)) w → ⊥)
     exactly v k slot w i = (
       λ e q. setting_apart _ w (sym (version_kept (settings slot v.entries) w q) ∙ sym (version_holds v k slot w i) ∙ e),
       λ d. version_holds v k slot w i ∙ version_lost (settings slot v.entries) w d,
@@ -357,7 +356,7 @@ pub forgets_older_bytes : ForgetsOlderBytes
 unfolding run_shift
 forgets_older_bytes k b c es items e d =
     ap (λ (v : Shift). run_shift v items)
-    (prepared_shift (shift_of k b es) d ∙ ap (λ (n : ℕ). shift_of k (replicate n 0) (prepared Done ∷ es)) e ∙ sym (prepared_shift (shift_of k c es) (sym (prepare_alike k.world.head b c e) ∙ d)))
+    (prepared_shift (shift_of k b es) d ∙ ap (λ (n : ℕ). shift_of k (replicate n 0) (prepared (Ok Done) ∷ es)) e ∙ sym (prepared_shift (shift_of k c es) (sym (prepare_alike k.world.head b c e) ∙ d)))
 
 -- ---- the bytes
 
@@ -378,23 +377,23 @@ newer_lie_behind =
 
 -- ---- never damaged
 
-no_head : (h : Head) (b : List ℕ) (slot w : ℕ) → head_fits h ≡ false → read_version_of h b slot w ≡ Refused BadShape
+no_head : (h : Head) (b : List ℕ) (slot w : ℕ) → head_fits h ≡ false → read_version_of h b slot w ≡ Err BadShape
 unfolding read_version_of open_rules kept_rules first_fault
 no_head h b slot w e = rw e
 
-no_slot : (h : Head) (b : List ℕ) (slot w : ℕ) → head_fits h ≡ true → is_bad_slot (slots_of h) (length b) slot ≡ true → read_version_of h b slot w ≡ Refused BadSlot
+no_slot : (h : Head) (b : List ℕ) (slot w : ℕ) → head_fits h ≡ true → is_bad_slot (slots_of h) (length b) slot ≡ true → read_version_of h b slot w ≡ Err BadSlot
 unfolding read_version_of open_rules kept_rules first_fault
 no_slot h b slot w e f = rw (e, f)
 
-sound_reads : (h : Head) (b : List ℕ) (slot w : ℕ) → Sound (slots_of h) b → read_version_of h b slot w ≢ Refused DamagedBook
+sound_reads : (h : Head) (b : List ℕ) (slot w : ℕ) → Sound (slots_of h) b → read_version_of h b slot w ≢ Err DamagedBook
 sound_reads h b slot w s e = go (head_fits h) (is_bad_slot (slots_of h) (length b) slot) refl refl
   where
     tests : is_sound (slots_of h) b ≡ true
     tests = is_sound_lem (slots_of h) b s
 
     go : (x y : Bool) → head_fits h ≡ x → is_bad_slot (slots_of h) (length b) slot ≡ y → ⊥
-    go false y p q = let z : Refused BadShape ≡ Refused DamagedBook = sym (no_head h b slot w p) ∙ e in let o : ◌≡◌ {A = ℕ} 0 1 = cc in omega arith
-    go true true p q = let z : Refused BadSlot ≡ Refused DamagedBook = sym (no_slot h b slot w p q) ∙ e in let o : ◌≡◌ {A = ℕ} 0 1 = cc in omega arith
+    go false y p q = let z : Err BadShape ≡ Err DamagedBook = sym (no_head h b slot w p) ∙ e in let o : ◌≡◌ {A = ℕ} 0 1 = cc in omega arith
+    go true true p q = let z : Err BadSlot ≡ Err DamagedBook = sym (no_slot h b slot w p q) ∙ e in let o : ◌≡◌ {A = ℕ} 0 1 = cc in omega arith
     go true false p q = newest_read (kept_or (newest_at b slot) w)
       where
         fine : SlotFine (slots_of h) (length b) slot
@@ -403,22 +402,22 @@ sound_reads h b slot w s e = go (head_fits h) (is_bad_slot (slots_of h) (length 
         newest_read : Dec (Keeps (newest_at b slot) w) → ⊥
         newest_read (yes k) =
             let t = kept_tells (slots_of h) b slot w s fine.inside k in
-            let z : Setting t.0 w ≡ Refused DamagedBook = sym (read_kept h b slot p fine w tests k ∙ t.1) ∙ e in
+            let z : (Ok (Setting t.0 w)) ≡ Err DamagedBook = sym (read_kept h b slot p fine w tests k ∙ t.1) ∙ e in
             let o : ◌≡◌ {A = ℕ} 0 1 = cc in
             omega arith
         newest_read (no k) =
-            let z : Refused NeverWritten ≡ Refused DamagedBook = sym (read_lost h b slot p fine w tests k) ∙ e in
+            let z : Err NeverWritten ≡ Err DamagedBook = sym (read_lost h b slot p fine w tests k) ∙ e in
             let o : ◌≡◌ {A = ℕ} 0 1 = cc in
             omega arith
 
-sound_newest : (h : Head) (b : List ℕ) (slot : ℕ) → Sound (slots_of h) b → read_setpoint_of h b slot ≢ Refused DamagedBook
+sound_newest : (h : Head) (b : List ℕ) (slot : ℕ) → Sound (slots_of h) b → read_setpoint_of h b slot ≢ Err DamagedBook
 unfolding read_setpoint_of
 sound_newest h b slot s = sound_reads h b slot (newest_at b slot) s
 
-sound_writes : (h : Head) (t b : List ℕ) (slot : ℕ) (l : Lease) (s : Setpoint) → Sound (slots_of h) b → (write_setpoint_of h t b slot l s).0 ≢ Refused DamagedBook
+sound_writes : (h : Head) (t b : List ℕ) (slot : ℕ) (l : Lease) (s : Setpoint) → Sound (slots_of h) b → (write_setpoint_of h t b slot l s).0 ≢ Err DamagedBook
 sound_writes h t b slot l s f = go (writing_is h t b slot l s)
   where
-    go : {o : BookAnswer × List ℕ} → Outcome h t b slot l s o → o.0 ≡ Refused DamagedBook → ⊥
+    go : {o : BookAnswer × List ℕ} → Outcome h t b slot l s o → o.0 ≡ Err DamagedBook → ⊥
     go (done c r) e = let z : ◌≡◌ {A = ℕ} 0 1 = cc in omega arith
     go (full c r) e = let z : ◌≡◌ {A = ℕ} 0 1 = cc in omega arith
     go (refused r d g c) e = false_not (sym (g (ap refusal_in e)) ∙ is_sound_lem (slots_of h) b f)
@@ -426,16 +425,16 @@ sound_writes h t b slot l s f = go (writing_is h t b slot l s)
 pub never_damaged : NeverDamaged
 never_damaged =
     from_prepared (λ v.
-    ((slot : ℕ) → reading v slot ≢ Refused DamagedBook)
-    × ((slot w : ℕ) → reading_version v slot w ≢ Refused DamagedBook)
-    × ((slot : ℕ) (l : Lease) (p : Setpoint) → (writing v slot l p).0 ≢ Refused DamagedBook))
+    ((slot : ℕ) → reading v slot ≢ Err DamagedBook)
+    × ((slot w : ℕ) → reading_version v slot w ≢ Err DamagedBook)
+    × ((slot : ℕ) (l : Lease) (p : Setpoint) → (writing v slot l p).0 ≢ Err DamagedBook))
     (λ v k. (
       λ slot. newest v k slot,
       λ slot w. sound_reads (head_of_lem v) v.book slot w k.book_is.sound,
       λ slot l p. sound_writes (head_of_lem v) (world_of v).table v.book slot l p k.book_is.sound,
     ))
   where
-    newest : (v : Shift) → Holding (slots_in v) (head_of_lem v) v.book v.entries → (slot : ℕ) → reading v slot ≢ Refused DamagedBook
+    newest : (v : Shift) → Holding (slots_in v) (head_of_lem v) v.book v.entries → (slot : ℕ) → reading v slot ≢ Err DamagedBook
     newest v k slot = sound_newest (head_of_lem v) v.book slot k.book_is.sound
 
 -- ---- what touches the book
@@ -445,13 +444,13 @@ unfolding next_shift
 untouched_otherwise s (arena_item i) = inr refl
 untouched_otherwise s prepare_book = go (preparing_is (head_of_lem s) s.book)
   where
-    go : {o : BookAnswer × List ℕ} → Prepared (head_of_lem s) s.book o → (o.0 ≡ Done) ⊎ (o.1 ≡ s.book)
+    go : {o : BookAnswer × List ℕ} → Prepared (head_of_lem s) s.book o → (o.0 ≡ Ok Done) ⊎ (o.1 ≡ s.book)
     go (was_prepared f g) = inl refl
     go (not_prepared r) = inr refl
 untouched_otherwise s (write_setpoint t l p) = go (writing_is (head_of_lem s) (world_of s).table s.book t l p)
   where
     go : {o : BookAnswer × List ℕ} → Outcome (head_of_lem s) (world_of s).table s.book t l p o
-        → ((v moved : ℕ) × (o.0 ≡ Written v moved)) ⊎ (o.1 ≡ s.book)
+        → ((v moved : ℕ) × (o.0 ≡ Ok (Written v moved))) ⊎ (o.1 ≡ s.book)
     go (done c f) = inl (_, _, refl)
     go (full c f) = inr refl
     go (refused r d g c) = inr refl
@@ -461,12 +460,12 @@ untouched_otherwise s (read_version t w) = inr refl
 -- ---- damage stays
 
 -- an item that is no done preparation leaves a damaged book as it is
-damaged_item : (s : Shift) (i : BookItem) → (Sound (slots_in s) s.book → ⊥) → (i ≡ prepare_book → (preparing_book s).0 ≢ Done) → (next_shift s i).book ≡ s.book
+damaged_item : (s : Shift) (i : BookItem) → (Sound (slots_in s) s.book → ⊥) → (i ≡ prepare_book → (preparing_book s).0 ≢ Ok Done) → (next_shift s i).book ≡ s.book
 unfolding next_shift
 damaged_item s (arena_item i) d u = refl
 damaged_item s prepare_book d u = go (preparing_is (head_of_lem s) s.book) (u refl)
   where
-    go : {o : BookAnswer × List ℕ} → Prepared (head_of_lem s) s.book o → o.0 ≢ Done → o.1 ≡ s.book
+    go : {o : BookAnswer × List ℕ} → Prepared (head_of_lem s) s.book o → o.0 ≢ Ok Done → o.1 ≡ s.book
     go (was_prepared f g) n = absurd (n refl)
     go (not_prepared r) n = refl
 damaged_item s (write_setpoint t l p) d u = go (writing_is (head_of_lem s) (world_of s).table s.book t l p)

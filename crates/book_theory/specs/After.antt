@@ -1,5 +1,5 @@
 -- What a done write leaves, when one is done, and when it is BookFull.
-use Rattle.std.specs.Prelude.{ℕ, zero, suc, ◌+◌, ◌*◌, ◌≤◌, ◌<◌, ◌≡◌, refl, ◌≢◌, ◌⊎◌, List, Bool, true, false, not, ◌&&◌, eqb, length, if◌then◌else◌}
+use Rattle.std.specs.Prelude.{ℕ, zero, suc, ◌+◌, ◌*◌, ◌≤◌, ◌<◌, ◌≡◌, refl, ◌≢◌, ◌⊎◌, List, Bool, true, false, not, ◌&&◌, eqb, length, if◌then◌else◌, Ok, Err}
 use Rattle.std.proofs.Common.{sym, ap, ◌∙◌, subst, inl, inr, arith}
 use Rattle.std.proofs.Math.Decide.{ℕ_discrete}
 use borrow.Author.Tests.{ltb-true, ltb-false, eq-eqb, eqb-true, eqb-false, not-true, not-false}
@@ -25,33 +25,33 @@ use Rattle.book_rules.proofs.Fine.{shape_head}
 use Rattle.book_rules.specs.Outcomes.{Claim}
 use Rattle.book_rules.proofs.Outcomes.{Outcome, done, full, refused, writing_is}
 use Rattle.book_rules.proofs.Readings.{other_reads, own_reads, new_reads, dropped_reads}
-use Rattle.book_rules.specs.declared.BookAnswer.{BookAnswer}
-use Rattle.book_rules.specs.declared.BookAnswer.TheVariants.{Done, Written, Setting, Refused}
+use Rattle.book_rules.specs.declared.BookDone.TheVariants.{Done, Written, Setting}
 use Rattle.book_rules.specs.declared.BookRefusal.{BookRefusal}
 use Rattle.book_rules.specs.declared.BookRefusal.TheVariants.{BookFull}
 use Rattle.history.specs.Tests.{alive, live}
 use Rattle.history.specs.Events.{fits}
 use Rattle.book_theory.specs.Statements.{OthersReadAsBefore, NewReadsAsWritten, OldestIsDropped, RaisesByOne, summed, is_moved, MovedIsSummed, StillMovesNothing, SlidesMove, OrderIsKept, Writable, Needed, FullExactly, DoneExactly, RoomForAll, RefusedChangesNothing}
+use Rattle.book_rules.specs.Rules.{BookAnswer}
 
 -- ---- a done write
 
 abbrev version_in : BookAnswer → ℕ
-version_in Done = 0
-version_in (Written v m) = v
-version_in (Setting p v) = 0
-version_in (Refused r) = 0
+version_in (Ok Done) = 0
+version_in (Ok (Written v m)) = v
+version_in (Ok (Setting p v)) = 0
+version_in (Err r) = 0
 
 abbrev moved_in : BookAnswer → ℕ
-moved_in Done = 0
-moved_in (Written v m) = m
-moved_in (Setting p v) = 0
-moved_in (Refused r) = 0
+moved_in (Ok Done) = 0
+moved_in (Ok (Written v m)) = m
+moved_in (Ok (Setting p v)) = 0
+moved_in (Err r) = 0
 
 abbrev pub refusal_in : BookAnswer → BookRefusal
-refusal_in Done = BookFull
-refusal_in (Written v m) = BookFull
-refusal_in (Setting p v) = BookFull
-refusal_in (Refused r) = r
+refusal_in (Ok Done) = BookFull
+refusal_in (Ok (Written v m)) = BookFull
+refusal_in (Ok (Setting p v)) = BookFull
+refusal_in (Err r) = r
 
 -- the facts of one
 record Facts (h : Head) (t b c : List ℕ) (slot : ℕ) (l : Lease) (s : Setpoint) (v moved : ℕ) : Type 0 where
@@ -70,10 +70,10 @@ unfolding put_of put_over_of
 slid_moved n b slot s v e = rw e
 
 facts : (h : Head) (t b : List ℕ) (slot : ℕ) (l : Lease) (s : Setpoint) (v moved : ℕ) → Held s
-    → (write_setpoint_of h t b slot l s).0 ≡ Written v moved → Facts h t b (write_setpoint_of h t b slot l s).1 slot l s v moved
+    → (write_setpoint_of h t b slot l s).0 ≡ Ok (Written v moved) → Facts h t b (write_setpoint_of h t b slot l s).1 slot l s v moved
 facts h t b slot l s v moved held e = go (writing_is h t b slot l s) e
   where
-    go : {o : BookAnswer × List ℕ} → Outcome h t b slot l s o → o.0 ≡ Written v moved → Facts h t b o.1 slot l s v moved
+    go : {o : BookAnswer × List ℕ} → Outcome h t b slot l s o → o.0 ≡ Ok (Written v moved) → Facts h t b o.1 slot l s v moved
     go (done c f) e =
         let sound = sound_is (slots_of h) b c.sound in
         record {
@@ -113,7 +113,7 @@ pub new_reads_as_written : NewReadsAsWritten write_setpoint_of read_version_of
 new_reads_as_written h t b slot l s v moved held e =
     let f = facts h t b slot l s v moved held e in
     let k = f.claim.given.slot_is in
-    subst (λ (x : ℕ). read_version_of h (write_setpoint_of h t b slot l s).1 slot x ≡ Setting s x) (sym f.version)
+    subst (λ (x : ℕ). read_version_of h (write_setpoint_of h t b slot l s).1 slot x ≡ Ok (Setting s x)) (sym f.version)
     (new_reads (slots_of h) b _ slot s moved k.inside f.sound f.wrote h f.head_fits_lem refl k.room k.limit)
 
 pub oldest_is_dropped : OldestIsDropped write_setpoint_of read_version_of
@@ -274,12 +274,12 @@ module _ (h : Head) (t b : List ℕ) (slot : ℕ) (l : Lease) (s : Setpoint) (c 
 pub full_exactly : FullExactly write_setpoint_of
 full_exactly h t b slot l s = (go (writing_is h t b slot l s), back (writing_is h t b slot l s))
   where
-    go : {o : BookAnswer × List ℕ} → Outcome h t b slot l s o → o ≡ (Refused BookFull, b) → Writable h t b slot l s × (length b < Needed h b slot)
+    go : {o : BookAnswer × List ℕ} → Outcome h t b slot l s o → o ≡ (Err BookFull, b) → Writable h t b slot l s × (length b < Needed h b slot)
     go (done c f) e = let x = ap (λ (o : BookAnswer × List ℕ). version_in o.0) e in absurd (omega arith)
     go (full c f) e = (writable h t b slot l s c, full_is h t b slot l s c f)
     go (refused r d g c) e = absurd (d (ap (λ (o : BookAnswer × List ℕ). refusal_in o.0) e))
 
-    back : {o : BookAnswer × List ℕ} → Outcome h t b slot l s o → Writable h t b slot l s × (length b < Needed h b slot) → o ≡ (Refused BookFull, b)
+    back : {o : BookAnswer × List ℕ} → Outcome h t b slot l s o → Writable h t b slot l s × (length b < Needed h b slot) → o ≡ (Err BookFull, b)
     back (done c f) p = absurd (omega (arith, not_full h t b slot l s c f, p.1))
     back (full c f) p = refl
     back (refused r d g c) p = absurd (c (claimed h t b slot l s p.0))
@@ -287,14 +287,14 @@ full_exactly h t b slot l s = (go (writing_is h t b slot l s), back (writing_is 
 pub done_exactly : DoneExactly write_setpoint_of
 done_exactly h t b slot l s = (go (writing_is h t b slot l s), back (writing_is h t b slot l s))
   where
-    go : {o : BookAnswer × List ℕ} → Outcome h t b slot l s o → (v : ℕ) × (moved : ℕ) × (o.0 ≡ Written v moved)
+    go : {o : BookAnswer × List ℕ} → Outcome h t b slot l s o → (v : ℕ) × (moved : ℕ) × (o.0 ≡ Ok (Written v moved))
         → Writable h t b slot l s × (Needed h b slot ≤ length b)
     go (done c f) e = (writable h t b slot l s c, not_full h t b slot l s c f)
     go (full c f) e = let x = e.2 in let z : ◌≡◌ {A = ℕ} 0 1 = cc in absurd (omega arith)
     go (refused r d g c) e = let x = e.2 in let z : ◌≡◌ {A = ℕ} 0 1 = cc in absurd (omega arith)
 
     back : {o : BookAnswer × List ℕ} → Outcome h t b slot l s o → Writable h t b slot l s × (Needed h b slot ≤ length b)
-        → (v : ℕ) × (moved : ℕ) × (o.0 ≡ Written v moved)
+        → (v : ℕ) × (moved : ℕ) × (o.0 ≡ Ok (Written v moved))
     back (done c f) p = (newest_at b slot + 1, (put_of (slots_of h) b slot s (newest_at b slot + 1)).0, refl)
     back (full c f) p = absurd (omega (arith, full_is h t b slot l s c f, p.1))
     back (refused r d g c) p = absurd (c (claimed h t b slot l s p.0))
@@ -311,7 +311,7 @@ room_for_all h t b slot l s room = go (writing_is h t b slot l s)
     not_there true = ap not (eq-eqb (4 * slot + 3) (4 * slot + 3) refl)
     not_there false = refl
 
-    go : {o : BookAnswer × List ℕ} → Outcome h t b slot l s o → o.0 ≡ Refused BookFull → ⊥
+    go : {o : BookAnswer × List ℕ} → Outcome h t b slot l s o → o.0 ≡ Err BookFull → ⊥
     go (done c f) e = let z : ◌≡◌ {A = ℕ} 0 1 = cc in omega arith
     go (full c f) e =
         let i = c.given.slot_is.inside in
@@ -326,7 +326,7 @@ room_for_all h t b slot l s room = go (writing_is h t b slot l s)
 pub refused_changes_nothing : RefusedChangesNothing write_setpoint_of
 refused_changes_nothing h t b slot l s = go (writing_is h t b slot l s)
   where
-    go : {o : BookAnswer × List ℕ} → Outcome h t b slot l s o → ((v moved : ℕ) → o.0 ≢ Written v moved) → o.1 ≡ b
+    go : {o : BookAnswer × List ℕ} → Outcome h t b slot l s o → ((v moved : ℕ) → o.0 ≢ Ok (Written v moved)) → o.1 ≡ b
     go (done c f) d = absurd (d (newest_at b slot + 1) (put_of (slots_of h) b slot s (newest_at b slot + 1)).0 refl)
     go (full c f) d = refl
     go (refused r e g c) d = refl

@@ -1,7 +1,7 @@
 -- Examples that meet the premises of each theorem, so that none speaks of nothing. By computation, on an arena of one header with two buckets:
 -- two slots, a book of 84 bytes, which has room for four bodies; boot number 6.
 -- ---- a day
-use Rattle.std.specs.Prelude.{ℕ, zero, suc, ◌<◌, ◌≡◌, refl, ◌≢◌, ◌↔◌, List, [], ◌∷◌, ◌++◌, Bool, true, ◌&&◌, ltb, length, get_or, replicate, set, if◌then◌else◌}
+use Rattle.std.specs.Prelude.{ℕ, zero, suc, ◌<◌, ◌≡◌, refl, ◌≢◌, ◌↔◌, List, [], ◌∷◌, ◌++◌, Bool, true, ◌&&◌, ltb, length, get_or, replicate, set, if◌then◌else◌, Ok, Err}
 use Rattle.std.proofs.Common.{sym, ap, ◌∙◌, subst, inr, arith, ltb-true}
 use Rattle.std.specs.Float.{binary32}
 use Rattle.std.specs.Float.Ieee.{of_bits, to_bits}
@@ -24,7 +24,7 @@ use Rattle.book_rules.specs.Rules.{first_fault, is_bad_book, is_bad_slot, is_hol
 use Rattle.book_rules.specs.Calls.{prepare_book_of, write_setpoint_of, line_read, read_version_of, read_setpoint_of}
 use Rattle.book_rules.specs.Sound.{Sound}
 use Rattle.book_rules.specs.Outcomes.{Keeps}
-use Rattle.book_rules.specs.declared.BookAnswer.TheVariants.{Done, Written, Setting, Refused}
+use Rattle.book_rules.specs.declared.BookDone.TheVariants.{Done, Written, Setting}
 use Rattle.book_rules.specs.declared.BookRefusal.TheVariants.{StaleBoot, NotHeld, DamagedBook, BookFull, NeverWritten}
 use Rattle.history.specs.World.{World, world_of}
 use Rattle.history.specs.Items.{call, try_acquire, drop_lease, preparation, preparation_over, perform, cold, next_item, preparing}
@@ -96,17 +96,17 @@ at_night =
 
 abbrev answers : List BookEntry
 answers =
-    version_read_lem 1 1 (Refused NeverWritten)
-    ∷ version_read_lem 1 2 (Setting (Speed 258) 2)
-    ∷ was_read 0 (Refused NeverWritten)
-    ∷ was_read 1 (Setting (Speed 5) 5)
-    ∷ wrote 1 other_lease (Speed 5) (Written 5 15)
-    ∷ wrote 1 other_lease (Speed 4) (Written 4 0)
-    ∷ wrote 1 other_lease (Valve true) (Written 3 0)
-    ∷ wrote 1 one_lease bar (Refused NotHeld)
-    ∷ wrote 1 one_lease (Speed 258) (Written 2 0)
-    ∷ wrote 1 one_lease bar (Written 1 0)
-    ∷ prepared Done
+    version_read_lem 1 1 (Err NeverWritten)
+    ∷ version_read_lem 1 2 (Ok (Setting (Speed 258) 2))
+    ∷ was_read 0 (Err NeverWritten)
+    ∷ was_read 1 (Ok (Setting (Speed 5) 5))
+    ∷ wrote 1 other_lease (Speed 5) (Ok (Written 5 15))
+    ∷ wrote 1 other_lease (Speed 4) (Ok (Written 4 0))
+    ∷ wrote 1 other_lease (Valve true) (Ok (Written 3 0))
+    ∷ wrote 1 one_lease bar (Err NotHeld)
+    ∷ wrote 1 one_lease (Speed 258) (Ok (Written 2 0))
+    ∷ wrote 1 one_lease bar (Ok (Written 1 0))
+    ∷ prepared (Ok Done)
     ∷ []
 
 abbrev pub the_day : Shift

@@ -1,5 +1,5 @@
 -- What a history with a book is made of: the items of a history, and the book's calls; the book is one more lent run, handed on.
-use Rattle.std.specs.Prelude.{ℕ, ◌-◌, ◌≡◌, List, [], ◌∷◌, eqb, length, get_or, if◌then◌else◌}
+use Rattle.std.specs.Prelude.{ℕ, ◌-◌, ◌≡◌, List, [], ◌∷◌, eqb, length, get_or, if◌then◌else◌, Ok, Err}
 use Rattle.types.specs.declared.Head.{Head}
 use Rattle.types.specs.declared.Lease.{Lease}
 use Rattle.setpoint.specs.RoundTrip.{Held}
@@ -8,11 +8,11 @@ use Rattle.setpoint.specs.declared.Setpoint.TheVariants.{Speed}
 use Rattle.book_rules.specs.Layout.{slots_of}
 use Rattle.book_rules.specs.Calls.{prepare_book_of, write_setpoint_of, read_setpoint_of, read_version_of}
 use Rattle.book_rules.proofs.Outcomes.{kept_or}
-use Rattle.book_rules.specs.declared.BookAnswer.{BookAnswer}
-use Rattle.book_rules.specs.declared.BookAnswer.TheVariants.{Done, Written, Setting, Refused}
+use Rattle.book_rules.specs.declared.BookDone.TheVariants.{Done, Written, Setting}
 use Rattle.book_rules.specs.declared.BookRefusal.TheVariants.{NeverWritten}
 use Rattle.history.specs.World.{World}
 use Rattle.history.specs.Items.{Item, Course, next_item}
+use Rattle.book_rules.specs.Rules.{BookAnswer}
 
 -- an item of a history (a call of document 01, a lone foreign step, a preparation or a salvage of the arena), or a call of the book without
 -- the head, the table and the book, which are what the last item left
@@ -78,14 +78,14 @@ run_shift s (i ∷ is) = run_shift (next_shift s i) is
 
 -- what one entry makes of what came before it
 abbrev pub settings_after : BookEntry → ℕ → List Setpoint → List Setpoint
-settings_after (prepared Done) slot before = []
-settings_after (prepared (Written v m)) slot before = before
-settings_after (prepared (Setting p v)) slot before = before
-settings_after (prepared (Refused r)) slot before = before
-settings_after (wrote t l p Done) slot before = before
-settings_after (wrote t l p (Written v m)) slot before = if eqb t slot then p ∷ before else before
-settings_after (wrote t l p (Setting q v)) slot before = before
-settings_after (wrote t l p (Refused r)) slot before = before
+settings_after (prepared (Ok Done)) slot before = []
+settings_after (prepared (Ok (Written v m))) slot before = before
+settings_after (prepared (Ok (Setting p v))) slot before = before
+settings_after (prepared (Err r)) slot before = before
+settings_after (wrote t l p (Ok Done)) slot before = before
+settings_after (wrote t l p (Ok (Written v m))) slot before = if eqb t slot then p ∷ before else before
+settings_after (wrote t l p (Ok (Setting q v))) slot before = before
+settings_after (wrote t l p (Err r)) slot before = before
 settings_after (was_read t a) slot before = before
 settings_after (version_read_lem t w a) slot before = before
 
@@ -95,12 +95,12 @@ settings slot (e ∷ es) = settings_after e slot (settings slot es)
 
 -- what a read is to answer then: the last, with their number as its version
 abbrev pub newest_read : List Setpoint → BookAnswer
-newest_read [] = Refused NeverWritten
-newest_read (p ∷ ps) = Setting p (length (p ∷ ps))
+newest_read [] = Err NeverWritten
+newest_read (p ∷ ps) = Ok (Setting p (length (p ∷ ps)))
 
 -- and what a read of a version is to answer: the w-th setting, if it is one of "the newest four settings", else NeverWritten
 unfoldable pub version_read : List Setpoint → ℕ → BookAnswer
-version_read ss w = elim (kept_or (length ss) w) [ yes k ↦ Setting (get_or ss (length ss - w) (Speed 0)) w | no k ↦ Refused NeverWritten ]
+version_read ss w = elim (kept_or (length ss) w) [ yes k ↦ Ok (Setting (get_or ss (length ss - w) (Speed 0)) w) | no k ↦ Err NeverWritten ]
 
 -- ---- premises
 

@@ -1,25 +1,22 @@
 -- Who writes: the holder of the slot's cell, one at a time; and of two done writes with different leases the first lease was released between.
-use Rattle.std.specs.Prelude.{ℕ, ◌+◌, ◌≡◌, refl, ◌≢◌, ◌⊎◌, List, [], ◌∷◌, ◌++◌, Bool, true, false, length, if◌then◌else◌}
+use Rattle.std.specs.Prelude.{ℕ, ◌+◌, ◌≡◌, refl, ◌≢◌, ◌⊎◌, List, [], ◌∷◌, ◌++◌, Bool, true, false, length, if◌then◌else◌, Ok, Err}
 use Rattle.std.proofs.Common.{sym, ap, ◌∙◌, subst, inl, inr, append-nil, append_assoc, arith, eqb-true}
 use Rattle.std.proofs.lemmas.Bool.{not-false}
+use Rattle.types.specs.Checks.{SalvageAnswer}
 use Rattle.model.specs.Arena.{hold_in, owner_at}
 use Rattle.model.specs.Log.{Actor, Event, released}
 use Rattle.types.specs.declared.Answer.{Answer}
 use Rattle.types.specs.declared.Answer.TheVariants as answer
 use Rattle.types.specs.declared.Hold.{Hold}
-use Rattle.types.specs.declared.SalvageAnswer.{SalvageAnswer}
-use Rattle.types.specs.declared.SalvageAnswer.TheVariants as salvaged
 use Rattle.laws.specs.Lists.{leases_equal}
 use Rattle.book_rules.specs.Calls.{written_of, write_setpoint_of}
 use Rattle.book_rules.specs.Layout.{slots_of, newest_at}
 use Rattle.book_rules.specs.Writing.{put_of}
-use Rattle.book_rules.specs.Rules.{first_fault, judge_book, bad_table, bad_slot, claim_rules}
-use Rattle.book_rules.specs.declared.BookCheck.TheVariants.{Fine, Fault}
+use Rattle.book_rules.specs.Rules.{BookAnswer, BookCheck, first_fault, judge_book, bad_table, bad_slot, claim_rules}
 use Rattle.book_rules.specs.declared.BookRefusal.{BookRefusal}
 use Rattle.book_rules.specs.declared.BookRefusal.TheVariants.{BadShape, BadSlot, StaleBoot, BookFull}
 use Rattle.book_rules.proofs.Outcomes.{Outcome, done, full, refused, writing_is}
-use Rattle.book_rules.specs.declared.BookAnswer.{BookAnswer}
-use Rattle.book_rules.specs.declared.BookAnswer.TheVariants.{Written, Refused}
+use Rattle.book_rules.specs.declared.BookDone.TheVariants.{Written}
 use Rattle.history.specs.World.{World, Live, now, Releases, Unreleased}
 use Rattle.history.specs.Items.{Item, call, foreign_step, preparation, preparation_over, salvage, salvage_over, Entry, Course, course_of, cold, events_of, history_of, prepared_by, salvaged_by, next_item, run}
 use Rattle.history.specs.Statements.{Begins}
@@ -36,7 +33,7 @@ use Rattle.book_theory.specs.Statements.{WrittenByHolder, UnownedWritesNothing, 
 pub written_by_holder : WrittenByHolder write_setpoint_of
 written_by_holder w b slot l p v m e = go (writing_is w.head w.table b slot l p) e
   where
-    go : {o : BookAnswer × List ℕ} → Outcome w.head w.table b slot l p o → o.0 ≡ Written v m → Live w (hold_in l) × (l.cell ≡ slot) × (l.boot ≡ w.head.boot)
+    go : {o : BookAnswer × List ℕ} → Outcome w.head w.table b slot l p o → o.0 ≡ Ok (Written v m) → Live w (hold_in l) × (l.cell ≡ slot) × (l.boot ≡ w.head.boot)
     go (done c f) x = (c.given.live, c.given.own, eqb-true _ _ (not-false _ c.given.fresh))
     go (full c f) x = let z : ◌≡◌ {A = ℕ} 0 1 = cc in absurd (omega arith)
     go (refused r d g c) x = let z : ◌≡◌ {A = ℕ} 0 1 = cc in absurd (omega arith)
@@ -44,7 +41,7 @@ written_by_holder w b slot l p v m e = go (writing_is w.head w.table b slot l p)
 pub unowned_writes_nothing : UnownedWritesNothing write_setpoint_of
 unowned_writes_nothing w b slot l p n = go (writing_is w.head w.table b slot l p)
   where
-    go : {o : BookAnswer × List ℕ} → Outcome w.head w.table b slot l p o → (r : BookRefusal) × (o ≡ (Refused r, b))
+    go : {o : BookAnswer × List ℕ} → Outcome w.head w.table b slot l p o → (r : BookRefusal) × (o ≡ (Err r, b))
     go (done c f) = absurd (n (rw (c.given.fresh, c.given.live)))
     go (full c f) = (BookFull, refl)
     go (refused r d g c) = (r, refl)
@@ -56,8 +53,8 @@ stale_writes_nothing w b slot l p s = rw s (go (bad_table w.head w.table).applie
     over : BookAnswer × List ℕ
     over = written_of (newest_at b slot + 1) (put_of (slots_of w.head) b slot p (newest_at b slot + 1))
 
-    go : (x y : Bool) → (if x then Fault BadShape else if y then Fault BadSlot else Fine) ≡ Fine
-        → judge_book (if x then Fault BadShape else if y then Fault BadSlot else Fault StaleBoot) (λ r. (Refused r, b)) over ≡ (Refused StaleBoot, b)
+    go : (x y : Bool) → ◌≡◌ {A = BookCheck} (if x then Err BadShape else if y then Err BadSlot else Ok tt) (Ok tt)
+        → judge_book (if x then Err BadShape else if y then Err BadSlot else Err StaleBoot) (λ r. (Err r, b)) over ≡ (Err StaleBoot, b)
     go true y e = let z : ◌≡◌ {A = ℕ} 0 1 = cc in absurd (omega arith)
     go false true e = let z : ◌≡◌ {A = ℕ} 0 1 = cc in absurd (omega arith)
     go false false e = refl
@@ -116,7 +113,7 @@ unprepared_more : (a : Answer) (w v : World) (k : Course) → a ≢ answer.Done 
 unprepared_more a w v k n = subst (Longer k) (sym (not_prepared a w v k n)) (one_more k _ v)
 
 -- a salvage that is not done
-unsalvaged_more : (a : SalvageAnswer) (w v : World) (k : Course) → ((e m : ℕ) × (a ≡ salvaged.Done e m) → ⊥) → Longer k (salvaged_by a w v k)
+unsalvaged_more : (a : SalvageAnswer) (w v : World) (k : Course) → ((e m : ℕ) × (a ≡ Ok (e, m)) → ⊥) → Longer k (salvaged_by a w v k)
 unsalvaged_more a w v k n =
     subst (Longer k) (sym (not_salvaged a w v k n)) (record { more = []; origin_is = refl; history_is = sym (append-nil (history_of k)) })
 

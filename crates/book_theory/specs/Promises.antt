@@ -5,8 +5,8 @@ use mathlib.Core.List.{List, ◌∷◌}
 use Rattle.types.specs.declared.Lease.{Lease}
 use Rattle.setpoint.specs.declared.Setpoint.{Setpoint}
 use Rattle.book_rules.specs.Calls.{prepare_book_of, write_setpoint_of, read_setpoint_of, read_version_of}
-use Rattle.book_rules.specs.declared.BookAnswer.{BookAnswer}
 use Rattle.book_theory.specs.Items.{prepare_book, write_setpoint, read_setpoint, read_version, prepared, wrote, was_read, version_read_lem, Shift, shift_of, world_of, head_of_lem, next_shift}
+use Rattle.book_rules.specs.Rules.{BookAnswer}
 
 -- ---- what meets the promise is the item of a history
 

@@ -15,7 +15,7 @@ use Rattle.setpoint.specs.declared.Setpoint.{Setpoint}
 use Rattle.setpoint.specs.declared.Setpoint.TheVariants.{Speed}
 use Rattle.book_rules.specs.Layout.{slots_of, lines_of, front_of, place_at, version_at, newest_at, is_sound}
 use Rattle.book_rules.specs.Writing.{put_of}
-use Rattle.book_rules.specs.Rules.{first_fault, is_bad_slot, open_rules, kept_rules}
+use Rattle.book_rules.specs.Rules.{BookAnswer, first_fault, is_bad_slot, open_rules, kept_rules}
 use Rattle.book_rules.specs.Calls.{write_setpoint_of, read_version_of, read_setpoint_of}
 use Rattle.book_rules.specs.Sound.{Kept, Apart, Sound, Clean}
 use Rattle.book_rules.proofs.Sound.{sound_is, is_sound_lem}
@@ -27,8 +27,7 @@ use Rattle.book_rules.proofs.Fine.{slot_fine}
 use Rattle.book_rules.specs.Outcomes.{Prepared, was_prepared, not_prepared, Keeps}
 use Rattle.book_rules.proofs.Outcomes.{preparing_is, prepare_alike, Outcome, done, full, refused, writing_is, kept_or, read_kept, read_lost}
 use Rattle.book_rules.proofs.Readings.{kept_tells, other_reads, own_reads, new_reads, dropped_reads, newest_other, version_zero, prepared_sound, prepared_clean}
-use Rattle.book_rules.specs.declared.BookAnswer.{BookAnswer}
-use Rattle.book_rules.specs.declared.BookAnswer.TheVariants.{Done, Written, Setting, Refused}
+use Rattle.book_rules.specs.declared.BookDone.TheVariants.{Done, Written, Setting}
 use Rattle.book_rules.specs.declared.BookRefusal.TheVariants.{BadShape, BadSlot, DamagedBook, NeverWritten}
 use Rattle.book_theory.specs.Items.{BookItem, arena_item, prepare_book, write_setpoint, read_setpoint, read_version, BookEntry, prepared, wrote, was_read, version_read_lem, Shift, shift_of, world_of, head_of_lem, slots_in, preparing_book, writing, reading, reading_version, next_shift, run_shift, settings_after, settings, newest_read, version_read, SameSlots, Typed, AllTyped}
 use Rattle.book_theory.specs.Statements.{PreparedReadsNothing, ForgetsOlderBytes, FromPrepared, ReadsLastWrite, ReadsNewestFour, NeverExactly, NeverDamaged, NeverOverlap, FreeAreZeros, NewerLieBehind, UntouchedOtherwise, Unprepared, DamageStays}

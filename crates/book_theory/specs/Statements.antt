@@ -1,6 +1,6 @@
 -- What the setpoint book promises, about single calls and over histories, as statements. `Items` has the words they are made of, `Theorems`
 -- gives their proofs by name. What stands in quotes is of document 02, L2 and L10, or of the work order.
-use Rattle.std.specs.Prelude.{ℕ, zero, suc, ◌+◌, ◌*◌, ◌-◌, ◌≤◌, ◌<◌, ◌≡◌, ◌≢◌, ◌⊎◌, ◌↔◌, List, [], ◌∷◌, ◌++◌, Bool, true, false, not, ◌&&◌, eqb, length, get_or, if◌then◌else◌}
+use Rattle.std.specs.Prelude.{ℕ, zero, suc, ◌+◌, ◌*◌, ◌-◌, ◌≤◌, ◌<◌, ◌≡◌, ◌≢◌, ◌⊎◌, ◌↔◌, List, [], ◌∷◌, ◌++◌, Bool, true, false, not, ◌&&◌, eqb, length, get_or, if◌then◌else◌, Ok, Err}
 use Rattle.model.specs.Arena.{cells_of, is_stale, lease_live, hold_in, head_fits}
 use Rattle.model.specs.Log.{Actor, Event, released}
 use Rattle.types.specs.declared.Head.{Head}
@@ -12,14 +12,12 @@ use Rattle.setpoint.specs.RoundTrip.{Held}
 use Rattle.setpoint.specs.declared.Setpoint.{Setpoint}
 use Rattle.book_rules.specs.Layout.{slots_of, lines_of, five_at, place_at, length_at, newest_at}
 use Rattle.book_rules.specs.Writing.{count, drop_oldest_of, is_crowded}
-use Rattle.book_rules.specs.Rules.{first_fault, bad_table, bad_slot, is_bad_slot, last_version}
+use Rattle.book_rules.specs.Rules.{BookAnswer, first_fault, bad_table, bad_slot, is_bad_slot, last_version}
 use Rattle.book_rules.specs.Sound.{Kept, Apart, Sound, Free}
 use Rattle.book_rules.specs.Appended.{goes_of}
 use Rattle.book_rules.specs.Wrote.{is_staying}
 use Rattle.book_rules.specs.Outcomes.{Keeps}
-use Rattle.book_rules.specs.declared.BookAnswer.{BookAnswer}
-use Rattle.book_rules.specs.declared.BookAnswer.TheVariants.{Done, Written, Setting, Refused}
-use Rattle.book_rules.specs.declared.BookCheck.TheVariants.{Fine}
+use Rattle.book_rules.specs.declared.BookDone.TheVariants.{Done, Written, Setting}
 use Rattle.book_rules.specs.declared.BookRefusal.{BookRefusal}
 use Rattle.book_rules.specs.declared.BookRefusal.TheVariants.{StaleBoot, DamagedBook, BookFull, NeverWritten}
 use Rattle.history.specs.Tests.{Alive}
@@ -46,7 +44,7 @@ summed (suc m) f = summed m f + f m
 abbrev pub AfterWrite : Writer → (Head → (book after : List ℕ) → ℕ → Setpoint → ℕ → ℕ → Type 0) → Type 0
 AfterWrite f P =
     (h : Head) (t b : List ℕ) (slot : ℕ) (l : Lease) (s : Setpoint) (v moved : ℕ) → Held s
-    → (f h t b slot l s).0 ≡ Written v moved → P h b (f h t b slot l s).1 slot s v moved
+    → (f h t b slot l s).0 ≡ Ok (Written v moved) → P h b (f h t b slot l s).1 slot s v moved
 
 -- "After compaction each kept version reads as before": each version of each slot, compacting or not, but the new one and the fourth before it
 abbrev pub OthersReadAsBefore : Writer → Reader → Type 0
@@ -55,11 +53,11 @@ OthersReadAsBefore f g =
 
 -- the new one reads as written
 abbrev pub NewReadsAsWritten : Writer → Reader → Type 0
-NewReadsAsWritten f g = AfterWrite f (λ h b c slot s v moved. g h c slot v ≡ Setting s v)
+NewReadsAsWritten f g = AfterWrite f (λ h b c slot s v moved. g h c slot v ≡ Ok (Setting s v))
 
 -- the fourth before it is no longer kept
 abbrev pub OldestIsDropped : Writer → Reader → Type 0
-OldestIsDropped f g = AfterWrite f (λ h b c slot s v moved. (w : ℕ) → w + 4 ≡ v → g h c slot w ≡ Refused NeverWritten)
+OldestIsDropped f g = AfterWrite f (λ h b c slot s v moved. (w : ℕ) → w + 4 ≡ v → g h c slot w ≡ Err NeverWritten)
 
 -- "raises the version by one"
 abbrev pub RaisesByOne : Writer → Type 0
@@ -116,24 +114,24 @@ Needed h b slot = 32 * slots_of h + 5 * count (lines_of (slots_of h)) (is_stayin
 abbrev pub FullExactly : Writer → Type 0
 FullExactly f =
     (h : Head) (t b : List ℕ) (slot : ℕ) (l : Lease) (s : Setpoint)
-    → (f h t b slot l s ≡ (Refused BookFull, b)) ↔ (Writable h t b slot l s × (length b < Needed h b slot))
+    → (f h t b slot l s ≡ (Err BookFull, b)) ↔ (Writable h t b slot l s × (length b < Needed h b slot))
 
 -- a write is done exactly if no refusal applies
 abbrev pub DoneExactly : Writer → Type 0
 DoneExactly f =
     (h : Head) (t b : List ℕ) (slot : ℕ) (l : Lease) (s : Setpoint)
-    → ((v : ℕ) × (moved : ℕ) × ((f h t b slot l s).0 ≡ Written v moved)) ↔ (Writable h t b slot l s × (Needed h b slot ≤ length b))
+    → ((v : ℕ) × (moved : ℕ) × ((f h t b slot l s).0 ≡ Ok (Written v moved))) ↔ (Writable h t b slot l s × (Needed h b slot ≤ length b))
 
 -- so a book with room for four bodies a slot is never full
 abbrev pub RoomForAll : Writer → Type 0
 RoomForAll f =
-    (h : Head) (t b : List ℕ) (slot : ℕ) (l : Lease) (s : Setpoint) → 52 * slots_of h ≤ length b → (f h t b slot l s).0 ≢ Refused BookFull
+    (h : Head) (t b : List ℕ) (slot : ℕ) (l : Lease) (s : Setpoint) → 52 * slots_of h ≤ length b → (f h t b slot l s).0 ≢ Err BookFull
 
 -- "refusals change nothing"
 abbrev pub RefusedChangesNothing : Writer → Type 0
 RefusedChangesNothing f =
     (h : Head) (t b : List ℕ) (slot : ℕ) (l : Lease) (s : Setpoint)
-    → ((v moved : ℕ) → (f h t b slot l s).0 ≢ Written v moved) → (f h t b slot l s).1 ≡ b
+    → ((v moved : ℕ) → (f h t b slot l s).0 ≢ Ok (Written v moved)) → (f h t b slot l s).1 ≡ b
 
 -- ---- what a read answers, by the book's bytes
 
@@ -147,22 +145,22 @@ AsWritten b slot w p =
 abbrev pub ReadsExactly : Reader → Type 0
 ReadsExactly f =
     (h : Head) (b : List ℕ) (slot w : ℕ) → ((j : ℕ) → get_or b j 0 < 256) → head_fits h ≡ true → is_bad_slot (slots_of h) (length b) slot ≡ false
-    → ((p : Setpoint) (v : ℕ) → (f h b slot w ≡ Setting p v) ↔ ((v ≡ w) × Sound (slots_of h) b × Keeps (newest_at b slot) w × AsWritten b slot w p))
-    × ((f h b slot w ≡ Refused NeverWritten) ↔ (Sound (slots_of h) b × (Keeps (newest_at b slot) w → ⊥)))
-    × ((f h b slot w ≡ Refused DamagedBook) ↔ (Sound (slots_of h) b → ⊥))
+    → ((p : Setpoint) (v : ℕ) → (f h b slot w ≡ Ok (Setting p v)) ↔ ((v ≡ w) × Sound (slots_of h) b × Keeps (newest_at b slot) w × AsWritten b slot w p))
+    × ((f h b slot w ≡ Err NeverWritten) ↔ (Sound (slots_of h) b × (Keeps (newest_at b slot) w → ⊥)))
+    × ((f h b slot w ≡ Err DamagedBook) ↔ (Sound (slots_of h) b → ⊥))
 
 -- ---- "Preparing the book writes all of it, so what is read never depends on older bytes."
 
 -- after a done preparation, whatever stood in the book, every version of every slot reads NeverWritten
 abbrev pub PreparedReadsNothing : Type 0
 PreparedReadsNothing =
-    (s : Shift) (slot w : ℕ) → (preparing_book s).0 ≡ Done → slot < slots_in s
-    → (reading (next_shift s prepare_book) slot ≡ Refused NeverWritten) × (reading_version (next_shift s prepare_book) slot w ≡ Refused NeverWritten)
+    (s : Shift) (slot w : ℕ) → (preparing_book s).0 ≡ Ok Done → slot < slots_in s
+    → (reading (next_shift s prepare_book) slot ≡ Err NeverWritten) × (reading_version (next_shift s prepare_book) slot w ≡ Err NeverWritten)
 
 -- two books of one length before it: the same items answer the same, and leave the same book
 abbrev pub ForgetsOlderBytes : Type 0
 ForgetsOlderBytes =
-    (k : Course) (b c : List ℕ) (es : List BookEntry) (items : List BookItem) → length b ≡ length c → (preparing_book (shift_of k b es)).0 ≡ Done
+    (k : Course) (b c : List ℕ) (es : List BookEntry) (items : List BookItem) → length b ≡ length c → (preparing_book (shift_of k b es)).0 ≡ Ok Done
     → run_shift (shift_of k b es) (prepare_book ∷ items) ≡ run_shift (shift_of k c es) (prepare_book ∷ items)
 
 -- ---- what is read is what was last written
@@ -170,7 +168,7 @@ ForgetsOlderBytes =
 -- from a done preparation of the book on, over any items that keep the number of slots of the head in force
 abbrev pub FromPrepared : (Shift → Type 0) → Type 0
 FromPrepared P =
-    (s : Shift) (items : List BookItem) → (preparing_book s).0 ≡ Done
+    (s : Shift) (items : List BookItem) → (preparing_book s).0 ≡ Ok Done
     → SameSlots (slots_in s) (next_shift s prepare_book) items → AllTyped items
     → P (run_shift s (prepare_book ∷ items))
 
@@ -187,15 +185,15 @@ ReadsNewestFour = FromPrepared (λ v. (slot w : ℕ) → slot < slots_in v → r
 abbrev pub NeverExactly : Type 0
 NeverExactly =
     FromPrepared (λ v. (slot w : ℕ) → slot < slots_in v
-    → (reading_version v slot w ≡ Refused NeverWritten) ↔ (Keeps (length (settings slot v.entries)) w → ⊥))
+    → (reading_version v slot w ≡ Err NeverWritten) ↔ (Keeps (length (settings slot v.entries)) w → ⊥))
 
 -- no read and no write answers DamagedBook
 abbrev pub NeverDamaged : Type 0
 NeverDamaged =
     FromPrepared (λ v.
-    ((slot : ℕ) → reading v slot ≢ Refused DamagedBook)
-    × ((slot w : ℕ) → reading_version v slot w ≢ Refused DamagedBook)
-    × ((slot : ℕ) (l : Lease) (p : Setpoint) → (writing v slot l p).0 ≢ Refused DamagedBook))
+    ((slot : ℕ) → reading v slot ≢ Err DamagedBook)
+    × ((slot w : ℕ) → reading_version v slot w ≢ Err DamagedBook)
+    × ((slot : ℕ) (l : Lease) (p : Setpoint) → (writing v slot l p).0 ≢ Err DamagedBook))
 
 -- no two bodies overlap
 abbrev pub NeverOverlap : Type 0
@@ -221,27 +219,27 @@ NewerLieBehind =
 -- another boot number is refused"
 abbrev pub WrittenByHolder : Writer → Type 0
 WrittenByHolder f =
-    (w : World) (b : List ℕ) (slot : ℕ) (l : Lease) (p : Setpoint) (v moved : ℕ) → (f w.head w.table b slot l p).0 ≡ Written v moved
+    (w : World) (b : List ℕ) (slot : ℕ) (l : Lease) (p : Setpoint) (v moved : ℕ) → (f w.head w.table b slot l p).0 ≡ Ok (Written v moved)
     → Live w (hold_in l) × (l.cell ≡ slot) × (l.boot ≡ w.head.boot)
 
 -- so a lease that has not the head's boot number, or is not live, writes nothing: it is refused, and every byte of the book stays
 abbrev pub UnownedWritesNothing : Writer → Type 0
 UnownedWritesNothing f =
     (w : World) (b : List ℕ) (slot : ℕ) (l : Lease) (p : Setpoint) → (lease_live w.head w.table l ≡ true → ⊥)
-    → (r : BookRefusal) × (f w.head w.table b slot l p ≡ (Refused r, b))
+    → (r : BookRefusal) × (f w.head w.table b slot l p ≡ (Err r, b))
 
 -- one with another boot number is StaleBoot, once table, book and slot pass
 abbrev pub StaleWritesNothing : Writer → Type 0
 StaleWritesNothing f =
     (w : World) (b : List ℕ) (slot : ℕ) (l : Lease) (p : Setpoint) → is_stale w.head l ≡ true
-    → first_fault (bad_table w.head w.table ∷ bad_slot w.head (length b) slot ∷ []) ≡ Fine
-    → f w.head w.table b slot l p ≡ (Refused StaleBoot, b)
+    → first_fault (bad_table w.head w.table ∷ bad_slot w.head (length b) slot ∷ []) ≡ Ok tt
+    → f w.head w.table b slot l p ≡ (Err StaleBoot, b)
 
 -- in any world two leases with which a write on one slot is done are the same lease
 abbrev pub OneWriter : Writer → Type 0
 OneWriter f =
     (w : World) (b c : List ℕ) (slot : ℕ) (l k : Lease) (p q : Setpoint) (u v m o : ℕ)
-    → (f w.head w.table b slot l p).0 ≡ Written u m → (f w.head w.table c slot k q).0 ≡ Written v o → l ≡ k
+    → (f w.head w.table b slot l p).0 ≡ Ok (Written u m) → (f w.head w.table c slot k q).0 ≡ Ok (Written v o) → l ≡ k
 
 -- the item begins no new stretch: it is no start of the arena's history, a done preparation or a done salvage
 abbrev pub GoesOn : Shift → BookItem → Type 0
@@ -268,7 +266,7 @@ WritersParted =
     → Begins rubbish start
     → let one = run_shift (shift_of (cold rubbish) book []) (arena_item start ∷ before) in
     let two = run_shift one (write_setpoint slot l p ∷ between) in
-    (writing one slot l p).0 ≡ Written u m → (writing two slot k q).0 ≡ Written v o → l ≢ k → OneStretch (next_shift one (write_setpoint slot l p)) between
+    (writing one slot l p).0 ≡ Ok (Written u m) → (writing two slot k q).0 ≡ Ok (Written v o) → l ≢ k → OneStretch (next_shift one (write_setpoint slot l p)) between
     → ReleasedBetween one.course two.course (hold_in l)
 
 -- ---- what touches the book
@@ -276,8 +274,8 @@ WritersParted =
 -- the item changes the book: a done preparation of it, or a done write
 abbrev pub Rewrites : Shift → BookItem → Type 0
 Rewrites s (arena_item i) = ⊥
-Rewrites s prepare_book = (preparing_book s).0 ≡ Done
-Rewrites s (write_setpoint t l p) = (v moved : ℕ) × ((writing s t l p).0 ≡ Written v moved)
+Rewrites s prepare_book = (preparing_book s).0 ≡ Ok Done
+Rewrites s (write_setpoint t l p) = (v moved : ℕ) × ((writing s t l p).0 ≡ Ok (Written v moved))
 Rewrites s (read_setpoint t) = ⊥
 Rewrites s (read_version t w) = ⊥
 
@@ -288,7 +286,7 @@ UntouchedOtherwise = (s : Shift) (i : BookItem) → Rewrites s i ⊎ ((next_shif
 -- no item is a done preparation of the book
 abbrev pub Unprepared : Shift → List BookItem → Type 0
 Unprepared s [] = Unit {0}
-Unprepared s (i ∷ is) = (i ≡ prepare_book → (preparing_book s).0 ≢ Done) × Unprepared (next_shift s i) is
+Unprepared s (i ∷ is) = (i ≡ prepare_book → (preparing_book s).0 ≢ Ok Done) × Unprepared (next_shift s i) is
 
 -- a damaged book has no cure but preparing it: until then every byte stays, and so does the damage
 abbrev pub DamageStays : Type 0

@@ -1,5 +1,5 @@
 -- The statements of `Statements`, each proved.
-use Rattle.std.specs.Prelude.{ℕ, ◌<◌, ◌≡◌, List, [], ◌∷◌, ◌++◌, Bool, true, false, not, length}
+use Rattle.std.specs.Prelude.{ℕ, ◌<◌, ◌≡◌, List, [], ◌∷◌, ◌++◌, Bool, true, false, not, length, Ok}
 use Rattle.std.proofs.Math.Path.{refl, sym, subst}
 use Rattle.std.proofs.Common.{ap, ◌∙◌, append_assoc, inl, inr, arith}
 use Rattle.model.specs.Log.{Made, Event, by_caller}
@@ -9,7 +9,6 @@ use Rattle.model.specs.Checks.{count_in, bad_shape, lease_rules}
 use Rattle.model.specs.Refusals.{first}
 use Rattle.types.specs.declared.Answer.{Answer}
 use Rattle.types.specs.declared.Answer.TheVariants.{Done, Cell, Granted, AllGranted, Busy, Refused, RefusedAt}
-use Rattle.types.specs.declared.Check.TheVariants.{Fine}
 use Rattle.types.specs.declared.Lease.{Lease}
 use Rattle.laws.specs.Checks.{not_stale}
 use Rattle.history.specs.World.{World, now}
@@ -34,7 +33,7 @@ pub unowned_barred : UnownedBarred
 unowned_barred w l n =
     record { owns_nothing = n; refused = λ k x. refused_unowned w k l x n; writes_nothing = λ bytes slot p. unowned_writes_nothing w bytes slot l p n }
 
-owner_fine : (w : World) (l : Lease) → ShapeFits w → Owned w l → first (lease_rules w.head w.table l) ≡ Fine
+owner_fine : (w : World) (l : Lease) → ShapeFits w → Owned w l → first (lease_rules w.head w.table l) ≡ Ok tt
 unfolding lease_rules first
 owner_fine w l shape o =
     let p = owned_parts w l o in
@@ -64,7 +63,7 @@ stale_useless w l shape s =
       written = λ bytes slot p e. stale_writes_nothing w bytes slot l p s e;
     }
   where
-    fine : first (bad_shape w.head w.table ∷ []) ≡ Fine
+    fine : first (bad_shape w.head w.table ∷ []) ≡ Ok tt
     fine = clear_fine (bad_shape w.head w.table ∷ []) (ap not shape, tt)
 
 -- ---- a lease that a call hands over

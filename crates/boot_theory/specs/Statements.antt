@@ -1,21 +1,18 @@
 -- Document 02, L8: "If the owner never uses a boot number twice, an issued pair of boot number and serial that owns nothing never owns again,
 -- preparations included, up to the next salvage." What demand 2 says up to the next preparation (crate `history`), over preparations, as
 -- statements; `Theorems` has the proofs by name.
-use Rattle.std.specs.Prelude.{ℕ, ◌<◌, ◌≡◌, List, [], ◌∷◌, ◌++◌, true, ◌⊎◌, ◌↔◌, length}
+use Rattle.std.specs.Prelude.{ℕ, ◌<◌, ◌≡◌, List, [], ◌∷◌, ◌++◌, true, ◌⊎◌, ◌↔◌, length, Ok, Err}
 use Rattle.model.specs.Log.{Actor, Event, took}
 use Rattle.model.specs.Arena.{lease_of, is_stale, lease_live, leases_of}
 use Rattle.model.specs.Refusals.{Rule, first}
 use Rattle.types.specs.declared.Answer.{Answer}
 use Rattle.types.specs.declared.Answer.TheVariants.{Done, Cell, Granted, AllGranted, Busy, Refused, RefusedAt}
-use Rattle.types.specs.declared.Check.TheVariants.{Fine}
 use Rattle.types.specs.declared.Lease.{Lease}
 use Rattle.types.specs.declared.Refusal.{Refusal}
 use Rattle.types.specs.declared.Refusal.TheVariants.{StaleBoot}
 use Rattle.setpoint.specs.declared.Setpoint.{Setpoint}
 use Rattle.book_rules.specs.Calls.{write_setpoint_of}
 use Rattle.book_rules.specs.Rules.{first_fault, bad_table, bad_slot}
-use Rattle.book_rules.specs.declared.BookAnswer.TheVariants as book
-use Rattle.book_rules.specs.declared.BookCheck.TheVariants as check
 use Rattle.book_rules.specs.declared.BookRefusal.{BookRefusal}
 use Rattle.book_rules.specs.declared.BookRefusal.TheVariants as fault
 use Rattle.history.specs.World.{World, now, Spent}
@@ -127,7 +124,7 @@ pub record Barred (w : World) (l : Lease) : Type 0 where
   pub refused : (k : Call) → NamesLease k l → (r : Refusal) × Early k r × (perform w k ≡ unchanged w k r)
   -- and so is every write into a setpoint book
   pub writes_nothing : (bytes : List ℕ) (slot : ℕ) (p : Setpoint)
-      → (r : BookRefusal) × (write_setpoint_of w.head w.table bytes slot l p ≡ (book.Refused r, bytes))
+      → (r : BookRefusal) × (write_setpoint_of w.head w.table bytes slot l p ≡ (Err r, bytes))
 
 abbrev pub UnownedBarred : Type 0
 UnownedBarred = (w : World) (l : Lease) → (Owned w l → ⊥) → Barred w l
@@ -144,11 +141,11 @@ pub record Useless (w : World) (l : Lease) : Type 0 where
   -- given to a call alone
   pub alone : (k : Call) → OneLease k l → answers w k ≡ Refused (StaleBoot 0)
   -- wherever it stands, with that position, if no check before it applies. These are all the calls that name it (`NamesPlaced` of crate `history`)
-  pub placed : (k : Call) (ahead : List Rule) (i : ℕ) → Placed w k l ahead i → first ahead ≡ Fine → answers w k ≡ Refused (StaleBoot i)
+  pub placed : (k : Call) (ahead : List Rule) (i : ℕ) → Placed w k l ahead i → first ahead ≡ Ok tt → answers w k ≡ Refused (StaleBoot i)
   -- in a write, if table, book and slot pass
   pub written : (bytes : List ℕ) (slot : ℕ) (p : Setpoint)
-      → first_fault (bad_table w.head w.table ∷ bad_slot w.head (length bytes) slot ∷ []) ≡ check.Fine
-      → write_setpoint_of w.head w.table bytes slot l p ≡ (book.Refused fault.StaleBoot, bytes)
+      → first_fault (bad_table w.head w.table ∷ bad_slot w.head (length bytes) slot ∷ []) ≡ Ok tt
+      → write_setpoint_of w.head w.table bytes slot l p ≡ (Err fault.StaleBoot, bytes)
 
 -- so is every stale lease, whatever the cells hold
 abbrev pub StaleUseless : Type 0

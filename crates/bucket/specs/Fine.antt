@@ -1,13 +1,12 @@
 -- The checks that every call by key makes first, and what is known once they are fine.
-use Rattle.std.specs.Prelude.{ℕ, ◌≤◌, ◌<◌, ◌≡◌, refl, List, [], ◌∷◌, length}
+use Rattle.std.specs.Prelude.{ℕ, ◌≤◌, ◌<◌, ◌≡◌, refl, List, [], ◌∷◌, length, Ok}
 use Rattle.std.proofs.Common.{ap, arith, leb-false}
+use Rattle.types.specs.Checks.{Found}
 use Rattle.model.specs.Arena.{holds_of}
 use Rattle.model.specs.Lock.{find_of, attempt_at, attempt_of, none_yet, retry_of, answer_of, settled}
 use Rattle.model.specs.Refusals.{Rule, first}
 use Rattle.model.specs.Checks.{bad_shape, bad_health, bad_registry, bad_script, bad_held, bad_binding, bucket_rules}
 use Rattle.model.specs.Calls.{starting, given, script_reply}
-use Rattle.types.specs.declared.Check.TheVariants.{Fine}
-use Rattle.types.specs.declared.Found.{Found}
 use Rattle.types.specs.declared.Head.{Head}
 use Rattle.types.specs.declared.ScriptReply.{ScriptReply}
 use Rattle.types.specs.declared.Reason.{Reason}
@@ -42,7 +41,7 @@ pub bucket_then : (h : Head) (t g registry script : List ℕ) (place : ℕ) (hel
 unfolding bucket_rules key_rules
 bucket_then h t g registry script place held binding = first_append (bad_shape h t ∷ bad_health h g ∷ bad_registry registry ∷ bad_script script place ∷ bad_held h t held) _
 
-pub key_fine : (h : Head) (t g registry script : List ℕ) (place : ℕ) (held : List ℕ) → first (key_rules h t g registry script place held) ≡ Fine
+pub key_fine : (h : Head) (t g registry script : List ℕ) (place : ℕ) (held : List ℕ) → first (key_rules h t g registry script place held) ≡ Ok tt
     → ScriptFine h (length t) (length g) (length script) place
 unfolding key_rules
 key_fine h t g registry script place held e =
@@ -58,7 +57,7 @@ pub record BucketFine (h : Head) (words bytes registry script place binding : �
   pub bound : binding < registry
 
 pub bucket_fine : (h : Head) (t g registry script : List ℕ) (place : ℕ) (held : List ℕ) (binding : ℕ)
-    → first (bucket_rules h t g registry script place held binding) ≡ Fine
+    → first (bucket_rules h t g registry script place held binding) ≡ Ok tt
     → BucketFine h (length t) (length g) (length registry) (length script) place binding
 unfolding bucket_rules key_rules
 bucket_fine h t g registry script place held binding e =

@@ -1,16 +1,15 @@
 -- Laws of attempts by key: one turn of the retry loop, and what a run's counts keep.
 use Prim.Native.Nat.{ℕ, suc, ◌+◌, ◌*◌, ◌-◌, ◌/◌, ◌%◌, ◌≤◌, ◌<◌}
-use Rattle.std.specs.Prelude.{◌≡◌, List, [], ◌∷◌, eqb, get_or, length, if◌then◌else◌}
+use Rattle.std.specs.Prelude.{◌≡◌, List, [], ◌∷◌, eqb, get_or, length, if◌then◌else◌, Ok, Err}
 use Rattle.std.proofs.Math.Path.{refl}
 use Rattle.std.proofs.Common.{sym, ap, ◌∙◌, mul-le-mul}
+use Rattle.types.specs.Checks.{Found}
 use native.Mathlib.Omega.{arith}
 use Rattle.model.specs.Log.{Made}
 use Rattle.model.specs.Arena.{waiters_at}
 use Rattle.model.specs.Foreign.{Setting, setting, steps_in, boundary_of}
 use Rattle.model.specs.Lock.{take_of, lock_of, run_of, tried_of, find_of, attempt_at, attempt_of, spin_of, pause_of, is_busy, last_of, none_yet, retry_of}
 use Rattle.types.specs.declared.Flow.{Flow}
-use Rattle.types.specs.declared.Found.{Found}
-use Rattle.types.specs.declared.Found.TheVariants as found
 use Rattle.types.specs.declared.Hold.{Hold}
 use Rattle.types.specs.declared.Locked.{Locked}
 use Rattle.types.specs.declared.Outcome.{Outcome}
@@ -54,9 +53,9 @@ module _ (e : Setting) where
 
   -- an attempt is one attempt and at most three boundaries
   attempt_at_lem : (k : Found) (buckets most : ℕ) (r : Run) (t g : List ℕ) → RunBound (steps_in e.script) most r → RunBoundTry (most + 3) (attempt_at k e buckets r t g)
-  attempt_at_lem (found.Fault x) buckets most r t g b =
+  attempt_at_lem (Err x) buckets most r t g b =
       record { flow_bound = b.flow_bound; few_attempts = omega (arith, b.few_attempts); few_boundaries = omega (arith, b.few_boundaries); few_yields = omega (arith, b.few_yields) }
-  attempt_at_lem (found.At c) buckets most r t g b =
+  attempt_at_lem (Ok c) buckets most r t g b =
       let k = lock_locked_bound _ e buckets r.flow t g c refl b.flow_bound in
       record { flow_bound = k.flow_bound; few_attempts = omega (arith, b.few_attempts); few_boundaries = omega (arith, b.few_boundaries, k.few); few_yields = omega (arith, b.few_yields) }
 

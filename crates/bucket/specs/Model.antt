@@ -1,11 +1,10 @@
 -- What the steps by key are given: an arena whose cells can be numbered, and a binding inside the registry.
-use Rattle.std.specs.Prelude.{ℕ, ◌*◌, ◌≤◌, ◌<◌, ◌≡◌, List, get_or, if◌then◌else◌}
+use Rattle.std.specs.Prelude.{ℕ, ◌*◌, ◌≤◌, ◌<◌, ◌≡◌, List, get_or, if◌then◌else◌, Ok}
 use Rattle.std.proofs.Common.{arith}
+use Rattle.types.specs.Checks.{Found}
 use Rattle.model.specs.Arena.{header_of}
 use Rattle.model.specs.Foreign.{Setting}
 use Rattle.model.specs.Lock.{attempt_of, pause_of, is_busy, last_of, none_yet}
-use Rattle.types.specs.declared.Found.{Found}
-use Rattle.types.specs.declared.Found.TheVariants as found
 use Rattle.types.specs.declared.Outcome.{Outcome}
 use Rattle.types.specs.declared.Outcome.TheVariants as outcome
 use Rattle.types.specs.declared.Reason.{Reason}
@@ -43,7 +42,7 @@ pub record Landed (s : Scope) (g : List ℕ) (c : ℕ) : Type 0 where
   pub healthy : get_or g (header_of s.buckets c) 0 ≡ 0
 
 abbrev pub Lands : Scope → List ℕ → Found → Type 0
-Lands s g k = (c : ℕ) → k ≡ found.At c → Landed s g c
+Lands s g k = (c : ℕ) → k ≡ Ok c → Landed s g c
 
 -- what a key stands for
 abbrev pub target_of : List ℕ → ℕ → ℕ → Target

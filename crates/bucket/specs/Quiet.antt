@@ -1,16 +1,15 @@
 -- Attempts past the script's end: every boundary there is quiet, and nothing changes between two attempts. What they come
 -- to, and that it is what document 01's attempts come to.
-use Rattle.std.specs.Prelude.{ℕ, zero, suc, ◌+◌, ◌*◌, ◌-◌, ◌%◌, ◌≤◌, ◌<◌, ◌≡◌, List, Bool, true, false, eqb, get_or, length, if◌then◌else◌}
+use Rattle.std.specs.Prelude.{ℕ, zero, suc, ◌+◌, ◌*◌, ◌-◌, ◌%◌, ◌≤◌, ◌<◌, ◌≡◌, List, Bool, true, false, eqb, get_or, length, if◌then◌else◌, Ok, Err}
 use Rattle.std.proofs.Math.Path.{refl}
 use Rattle.std.proofs.Common.{sym, ap, ◌∙◌}
+use Rattle.types.specs.Checks.{Found}
 use native.Mathlib.Omega.{arith}
 use Rattle.choice.specs.Pick.{if_both}
 use Rattle.model.specs.Arena.{header_of, waiters_at}
 use Rattle.model.specs.Foreign.{Setting, steps_in}
 use Rattle.model.specs.Lock.{run_of, tried_of, find_of, attempt_at, attempt_of, spin_of, pause_of, is_busy, last_of, none_yet, retry_of}
 use Rattle.types.specs.declared.Flow.{Flow}
-use Rattle.types.specs.declared.Found.{Found}
-use Rattle.types.specs.declared.Found.TheVariants as found
 use Rattle.types.specs.declared.Locked.{Locked}
 use Rattle.types.specs.declared.Outcome.{Outcome}
 use Rattle.types.specs.declared.Outcome.TheVariants as outcome
@@ -51,12 +50,12 @@ quiet_retry_of (suc left) i last r t c =
 
 -- the same at what a key was found to name: one attempt, and all
 abbrev pub quiet_once_at : Found → Run → List ℕ → Tried × List ℕ
-quiet_once_at (found.Fault x) r t = (tried_of (run_of r.flow (r.attempts + 1) r.boundaries r.yields) (outcome.Refused x), t)
-quiet_once_at (found.At c) r t = quiet_attempt_of r t c
+quiet_once_at (Err x) r t = (tried_of (run_of r.flow (r.attempts + 1) r.boundaries r.yields) (outcome.Refused x), t)
+quiet_once_at (Ok c) r t = quiet_attempt_of r t c
 
 abbrev pub quiet_retry_at : ℕ → Found → Run → List ℕ → Tried × List ℕ
-quiet_retry_at n (found.Fault x) r t = (tried_of (run_of r.flow (r.attempts + 1) r.boundaries r.yields) (outcome.Refused x), t)
-quiet_retry_at n (found.At c) r t = quiet_retry_of n 0 none_yet r t c
+quiet_retry_at n (Err x) r t = (tried_of (run_of r.flow (r.attempts + 1) r.boundaries r.yields) (outcome.Refused x), t)
+quiet_retry_at n (Ok c) r t = quiet_retry_of n 0 none_yet r t c
 
 -- ---- past the end they are document 01's
 
@@ -105,11 +104,11 @@ module _ (e : Setting) (buckets : ℕ) (g : List ℕ) where
       ∙ rw (boundary_quiet e r.flow t g l, spin_quiet (run_of r.flow r.attempts (r.boundaries + 1) (r.yields + 1)) t l, spin_quiet r t l) (if_beside (eqb (i % 64) 63) _ _ (t, g))
 
   -- one attempt, at what its key was found to name
-  pub once_quiet : (k : Found) (r : Run) (t : List ℕ) → ((c : ℕ) → k ≡ found.At c → get_or g (header_of buckets c) 0 ≡ 0) → Past r
+  pub once_quiet : (k : Found) (r : Run) (t : List ℕ) → ((c : ℕ) → k ≡ Ok c → get_or g (header_of buckets c) 0 ≡ 0) → Past r
       → (attempt_at k e buckets r t g).seen ≡ beside (quiet_once_at k r t)
   unfolding quiet_attempt_of
-  once_quiet (found.Fault x) r t h l = refl
-  once_quiet (found.At c) r t h l = rw (lock_quiet e buckets g c (h c refl) r.flow t l)
+  once_quiet (Err x) r t h l = refl
+  once_quiet (Ok c) r t h l = rw (lock_quiet e buckets g c (h c refl) r.flow t l)
 
   module _ (registry : List ℕ) (binding bucket : ℕ) where
     abbrev tried : Run → List ℕ → Tried × (List ℕ × List ℕ)
@@ -121,15 +120,15 @@ module _ (e : Setting) (buckets : ℕ) (g : List ℕ) where
     unfolding retry_of
     turn left i last r t = seen_if (is_busy (tried r t).0.outcome) _ _
 
-    fault : (x : Refusal) (r : Run) (t : List ℕ) → find_of e.headers buckets g registry binding bucket ≡ found.Fault x
-        → (attempt_of e buckets registry binding bucket r t g).seen ≡ beside (quiet_once_at (found.Fault x) r t)
+    fault : (x : Refusal) (r : Run) (t : List ℕ) → find_of e.headers buckets g registry binding bucket ≡ Err x
+        → (attempt_of e buckets registry binding bucket r t g).seen ≡ beside (quiet_once_at (Err x) r t)
     unfolding attempt_of
     fault x r t f = rw f
 
-    module _ (c : ℕ) (f : find_of e.headers buckets g registry binding bucket ≡ found.At c) where
+    module _ (c : ℕ) (f : find_of e.headers buckets g registry binding bucket ≡ Ok c) where
       attempt_quiet : (r : Run) (t : List ℕ) → Past r → (attempt_of e buckets registry binding bucket r t g).seen ≡ beside (quiet_attempt_of r t c)
       unfolding attempt_of
-      attempt_quiet r t l = rw f (once_quiet (found.At c) r t (λ d q. find_healthy _ _ _ _ _ _ d (f ∙ q)) l)
+      attempt_quiet r t l = rw f (once_quiet (Ok c) r t (λ d q. find_healthy _ _ _ _ _ _ d (f ∙ q)) l)
 
       ended : (i : ℕ) (last : Reason) (r : Run) (t : List ℕ) → (retry_of zero i last e buckets registry binding bucket r t g).seen ≡ beside (quiet_retry_of zero i last r t c)
       unfolding retry_of quiet_retry_of
@@ -155,10 +154,10 @@ module _ (e : Setting) (buckets : ℕ) (g : List ℕ) where
     -- all attempts
     pub retry_quiet : (n : ℕ) (k : Found) (r : Run) (t : List ℕ) → 1 ≤ n → k ≡ find_of e.headers buckets g registry binding bucket → Past r
         → (retry_of n 0 none_yet e buckets registry binding bucket r t g).seen ≡ beside (quiet_retry_at n k r t)
-    retry_quiet n (found.Fault x) r t m q l =
+    retry_quiet n (Err x) r t m q l =
         let s : n ≡ suc (n - 1) = omega arith in
         rw s (turn (n - 1) 0 none_yet r t ∙ rw (fault x r t (sym q)))
-    retry_quiet n (found.At c) r t m q l = retry_from c (sym q) n 0 none_yet r t l
+    retry_quiet n (Ok c) r t m q l = retry_from c (sym q) n 0 none_yet r t l
 
 -- ---- counts: few enough that no sum wraps
 
@@ -172,7 +171,7 @@ more_few most more r l b = record { few_attempts = omega (arith, b.few_attempts)
 
 -- the cell that was found is in a table of so many words
 abbrev pub Within : ℕ → Found → Type 0
-Within words k = (c : ℕ) → k ≡ found.At c → 3 * c + 2 < words
+Within words k = (c : ℕ) → k ≡ Ok c → 3 * c + 2 < words
 
 pub run_few : (steps most : ℕ) (r : Run) → RunBound steps most r → Few most r
 run_few steps most r b = record { few_attempts = b.few_attempts; few_boundaries = b.few_boundaries; few_yields = b.few_yields }

@@ -8,17 +8,19 @@ ghost use Rattle.model.specs.Refusals.{first};
 ghost use Rattle.model.specs.Checks.{bad_registry, bad_binding, bucket_rules};
 ghost use Rattle.bucket.specs.Fine.{key_rules, list_rules};
 
-use types::{Check, Head, Refusal};
+use types::{Head, Refusal};
 
-fn registry_fault(registry: &[u32]) -> Check
+#[tactic(auto, unfolding(model::specs::Refusals::first, model::specs::Arena::registry_fits))]
+fn registry_fault(registry: &[u32]) -> Result<(), Refusal>
     ensures { result ≡ first (bad_registry registry.now ∷ []) }
 {
-    if registry.len() <= 64 {
-        return Check::Fine;
+    if 64 < registry.len() {
+        return Err(Refusal::BadShape);
     }
-    Check::Fault(Refusal::BadShape)
+    Ok(())
 }
 
+#[tactic(auto, using(laws::specs::Checks::fronts))]
 fn lists_fault(
     head: Head,
     table: &[u32],
@@ -26,20 +28,18 @@ fn lists_fault(
     script: &[u32],
     place: usize,
     held: &[u32],
-) -> Check
+) -> Result<(), Refusal>
     requires { shape_fits head (length table.now) ≡ true }
     ensures { result
         ≡ first (list_rules head table.now
         registry.now script.now place held.now) }
 {
-    let names = registry_fault(registry);
-    match names {
-        Check::Fault(refusal) => Check::Fault(refusal),
-        Check::Fine => foreign::lists_fault(head, table, script, place, held),
-    }
+    registry_fault(registry)?;
+    foreign::lists_fault(head, table, script, place, held)
 }
 
 // The checks that every call by key makes first.
+#[tactic(auto, using(laws::specs::Checks::fronts))]
 pub fn key_fault(
     head: Head,
     table: &[u32],
@@ -48,28 +48,27 @@ pub fn key_fault(
     script: &[u32],
     place: usize,
     held: &[u32],
-) -> Check
+) -> Result<(), Refusal>
     ensures { result
         ≡ first (key_rules head table.now health.now
         registry.now script.now place held.now) }
 {
-    let shape = arena::arena_fault(head, table, health);
-    match shape {
-        Check::Fault(refusal) => Check::Fault(refusal),
-        Check::Fine => lists_fault(head, table, registry, script, place, held),
-    }
+    arena::arena_fault(head, table, health)?;
+    lists_fault(head, table, registry, script, place, held)
 }
 
 // 5, of the key at a position.
-pub fn binding_fault(registry: &[u32], position: usize, binding: u32) -> Check
+#[tactic(auto, unfolding(model::specs::Refusals::first))]
+pub fn binding_fault(registry: &[u32], position: usize, binding: u32) -> Result<(), Refusal>
     ensures { result ≡ first (bad_binding registry.now position binding ∷ []) }
 {
     if registry.len() <= binding as usize {
-        return Check::Fault(Refusal::BadBinding(position));
+        return Err(Refusal::BadBinding(position));
     }
-    Check::Fine
+    Ok(())
 }
 
+#[tactic(auto, using(laws::specs::Checks::fronts))]
 pub fn bucket_check(
     head: Head,
     table: &[u32],
@@ -79,14 +78,11 @@ pub fn bucket_check(
     place: usize,
     held: &[u32],
     binding: u32,
-) -> Check
+) -> Result<(), Refusal>
     ensures { result
         ≡ first (bucket_rules head table.now health.now
         registry.now script.now place held.now binding) }
 {
-    let key = key_fault(head, table, health, registry, script, place, held);
-    match key {
-        Check::Fault(refusal) => Check::Fault(refusal),
-        Check::Fine => binding_fault(registry, 0, binding),
-    }
+    key_fault(head, table, health, registry, script, place, held)?;
+    binding_fault(registry, 0, binding)
 }

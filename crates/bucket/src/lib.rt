@@ -21,20 +21,20 @@ ghost use Rattle.bucket.specs.Fine.{BucketFine, once_by_key_of, retry_by_key_of}
 
 use attempts::{attempt_once, find};
 use checks::bucket_check;
-use foreign::Scope;
+use foreign::{Holds, Scope};
 use quiet::{quiet_once_at, quiet_retry_at};
 use retries::retry;
-use types::{Check, Flow, Found, Head, Outcome, Reason, Refusal, Run, ScriptReply, Tried};
+use types::{Flow, Head, Outcome, Reason, Refusal, Run, ScriptReply, Tried};
 
 // A key as a caller names it: a binding, which is a place in the registry, and a bucket.
-#[derive(Clone, Copy)]
+#[derive(Clone, Copy, Debug, PartialEq, Eq)]
 struct Key {
     binding: u32,
     bucket: u32,
 }
 
 // What a key stands for, as long as the registry is lent: the header that it has there, and the bucket.
-#[derive(Clone, Copy)]
+#[derive(Clone, Copy, Debug, PartialEq, Eq)]
 struct Target {
     header: u32,
     bucket: u32,
@@ -44,14 +44,16 @@ fn target_of(registry: &[u32], key: Key) -> Target
     requires { key.binding < length registry.now }
     ensures { result ≡ target_of registry.now key.binding key.bucket }
 {
-    let header = registry[key.binding as usize];
-    let bucket = key.bucket;
-    Target { header, bucket }
+    Target {
+        header: registry[key.binding as usize],
+        bucket: key.bucket,
+    }
 }
 
 // An attempt of the retry loop. Why it was Busy stands beside what it came to: the loop tests the one and keeps the
 // other, and both stay in few words.
-#[derive(Clone, Copy)]
+// (d) An `Outcome` with its reason inside would be taken apart at each turn of the loop.
+#[derive(Clone, Copy, Debug, PartialEq, Eq)]
 struct Attempted {
     run: Run,
     outcome: Outcome,
@@ -59,6 +61,8 @@ struct Attempted {
 }
 
 // ---- the calls
+// (d) One attempt and all 4,096 have two of each part: they differ in the call in the middle and in its definition, and
+// one part for both would be handed that call, its promise and its law.
 
 // A run that has made no step.
 pub fn starting(head: Head, place: usize) -> Run
@@ -81,9 +85,8 @@ pub fn settle(outcome: Outcome) -> Outcome
     ensures { result ≡ settled outcome }
 {
     match outcome {
-        Outcome::Granted(lease) => Outcome::Granted(lease),
         Outcome::Busy(why) => Outcome::Refused(Refusal::SerializationFailure(why)),
-        Outcome::Refused(refusal) => Outcome::Refused(refusal),
+        Outcome::Granted(_) | Outcome::Refused(_) => outcome,
     }
 }
 
@@ -96,7 +99,7 @@ fn attempt_alone(
     health: &mut [u8],
     script: &[u32],
     held: &[u32],
-    found: Found,
+    found: Result<u32, Refusal>,
 ) -> Tried
     requires { RoomIn scope (length table.old) (length health.old) 0 (length script.now)
         × (RunBound scope.steps call_most run × Lands scope health.old found) }
@@ -104,12 +107,16 @@ fn attempt_alone(
         ≡ (attempt_at found (in_scope scope script.now (holds_of held.now))
         scope.buckets run table.old health.old).seen }
 {
-    let flow = run.flow;
-    if scope.steps <= flow.place {
-        return quiet_once_at(scope.head(flow.next), run, table, found);
+    if scope.steps <= run.flow.place {
+        return quiet_once_at(scope.head(run.flow.next), run, table, found);
     }
     let taken = [[0; 2]; 64];
-    attempt_once(scope, run, table, health, script, held, &taken, 0, found)
+    let holds = Holds {
+        held,
+        taken: &taken,
+        n: 0,
+    };
+    attempt_once(scope, run, table, health, script, &holds, found)
 }
 
 fn retry_alone(
@@ -129,21 +136,23 @@ fn retry_alone(
         scope.buckets registry.now key.binding key.bucket
         run table.old health.old).seen }
 {
-    let flow = run.flow;
-    if scope.steps <= flow.place {
+    if scope.steps <= run.flow.place {
         let found = find(scope, health, target_of(registry, key));
-        return quiet_retry_at(scope.head(flow.next), run, table, found);
+        return quiet_retry_at(scope.head(run.flow.next), run, table, found);
     }
     let taken = [[0; 2]; 64];
+    let holds = Holds {
+        held,
+        taken: &taken,
+        n: 0,
+    };
     retry(
         scope,
         run,
         table,
         health,
         script,
-        held,
-        &taken,
-        0,
+        &holds,
         registry,
         key.binding,
         key.bucket,
@@ -151,6 +160,7 @@ fn retry_alone(
 }
 
 // One attempt of a call whose checks are fine.
+#[tactic(auto, unfolding(crate::specs::Fine::once_by_key_of))]
 fn once_by_key(
     head: Head,
     table: &mut [u32],
@@ -171,12 +181,12 @@ fn once_by_key(
     let start = starting(head, place);
     let found = find(scope, health, target_of(registry, key));
     let tried = attempt_alone(scope, start, table, health, script, held, found);
-    let run = tried.run;
-    let outcome = tried.outcome;
-    foreign::script_reply(head, run, lease::answer_of(head.boot, outcome))
+    let answer = lease::answer_of(head.boot, tried.outcome);
+    foreign::script_reply(head, tried.run, answer)
 }
 
 // All attempts of a call whose checks are fine.
+#[tactic(auto, unfolding(crate::specs::Fine::retry_by_key_of))]
 fn retry_by_key(
     head: Head,
     table: &mut [u32],
@@ -196,15 +206,14 @@ fn retry_by_key(
     let scope = foreign::scope_of(head, script);
     let start = starting(head, place);
     let tried = retry_alone(scope, start, table, health, registry, script, held, key);
-    let run = tried.run;
-    let outcome = tried.outcome;
-    let last = settle(outcome);
-    foreign::script_reply(head, run, lease::answer_of(head.boot, last))
+    let answer = lease::answer_of(head.boot, settle(tried.outcome));
+    foreign::script_reply(head, tried.run, answer)
 }
 
 // One attempt by key: the header from the registry (6 if there is none), its health (7 if poisoned), the bucket (8 if
 // there is none), then `try_lock`. These three count the attempt and change nothing. `try_lock` reads the health again
 // after its third boundary: 7 there gives the lease up, its cell free, its serial spent.
+#[tactic(auto, unfolding(model::specs::Calls::transactional_of, crate::specs::Fine::once_by_key_of))]
 pub fn transactional_try_lock_bucket(
     head: Head,
     table: &mut [u32],
@@ -220,10 +229,9 @@ pub fn transactional_try_lock_bucket(
         ≡ (transactional_of head table.old health.old
         registry.now script.now place held.now binding bucket).seen }
 {
-    let check = bucket_check(head, table, health, registry, script, place, held, binding);
-    match check {
-        Check::Fault(refusal) => foreign::refuse_at_once(head, place, refusal),
-        Check::Fine => {
+    match bucket_check(head, table, health, registry, script, place, held, binding) {
+        Err(refusal) => foreign::refuse_at_once(head, place, refusal),
+        Ok(()) => {
             let key = Key { binding, bucket };
             once_by_key(head, table, health, registry, script, place, held, key)
         }
@@ -233,6 +241,7 @@ pub fn transactional_try_lock_bucket(
 // Attempts 0 to 4,095 by key, with a boundary after each Busy one and a yield after every 64th. A grant or a refusal
 // ends it at once, 7 after an attempt's third boundary too: the lease is given up and its serial stays spent. 4,096
 // Busy attempts are refused with 11 and the reason of the last, and nothing is held.
+#[tactic(auto, unfolding(model::specs::Calls::acquire_bucket_of, crate::specs::Fine::retry_by_key_of))]
 pub fn acquire_index_bucket(
     head: Head,
     table: &mut [u32],
@@ -248,10 +257,9 @@ pub fn acquire_index_bucket(
         ≡ (acquire_bucket_of head table.old health.old
         registry.now script.now place held.now binding bucket).seen }
 {
-    let check = bucket_check(head, table, health, registry, script, place, held, binding);
-    match check {
-        Check::Fault(refusal) => foreign::refuse_at_once(head, place, refusal),
-        Check::Fine => {
+    match bucket_check(head, table, health, registry, script, place, held, binding) {
+        Err(refusal) => foreign::refuse_at_once(head, place, refusal),
+        Ok(()) => {
             let key = Key { binding, bucket };
             retry_by_key(head, table, health, registry, script, place, held, key)
         }

@@ -11,37 +11,35 @@ ghost use Rattle.bucket.specs.Model.{KeyFits, again_of};
 
 use crate::attempts::{attempt, find, is_busy};
 use crate::{Attempted, Target};
-use foreign::Scope;
+use foreign::{Holds, Scope};
 use types::{Outcome, Reason, Run, Tried};
 
 // After each Busy attempt: a boundary and a spin.
+#[tactic(auto, unfolding(model::specs::Lock::spin_of))]
 fn spin(
     scope: Scope,
     run: Run,
     table: &mut [u32],
     health: &mut [u8],
     script: &[u32],
-    held: &[u32],
-    taken: &[[u32; 2]; 64],
-    n: usize,
+    holds: &Holds<'_>,
 ) -> Run
-    requires { RoomIn scope (length table.old) (length health.old) n (length script.now)
+    requires { RoomIn scope (length table.old) (length health.old) holds.now.n (length script.now)
         × RunBound scope.steps (try_most + 4) run }
     ensures { (result, (table.new, health.new))
-        ≡ (spin_of (setting_of scope script.now held.now taken.now n)
+        ≡ (spin_of (setting_of scope script.now holds.now.held.now holds.now.taken.now holds.now.n)
         run table.old health.old).seen }
 {
-    let flow = run.flow;
-    let after = foreign::boundary(scope, flow, table, health, script, held, taken, n);
+    let flow = foreign::boundary(scope, run.flow, table, health, script, holds);
     Run {
-        flow: after,
-        attempts: run.attempts,
+        flow,
         boundaries: run.boundaries + 1,
-        yields: run.yields,
+        ..run
     }
 }
 
 // After a Busy attempt whose number has remainder 63 by 64, a boundary and a yield come before that.
+#[tactic(auto, unfolding(model::specs::Lock::pause_of))]
 fn pause(
     i: usize,
     scope: Scope,
@@ -49,31 +47,29 @@ fn pause(
     table: &mut [u32],
     health: &mut [u8],
     script: &[u32],
-    held: &[u32],
-    taken: &[[u32; 2]; 64],
-    n: usize,
+    holds: &Holds<'_>,
 ) -> Run
-    requires { RoomIn scope (length table.old) (length health.old) n (length script.now)
+    requires { RoomIn scope (length table.old) (length health.old) holds.now.n (length script.now)
         × RunBound scope.steps (try_most + 3) run }
     ensures { (result, (table.new, health.new))
-        ≡ (pause_of (setting_of scope script.now held.now taken.now n) i
+        ≡ (pause_of (setting_of scope script.now holds.now.held.now holds.now.taken.now holds.now.n) i
         run table.old health.old).seen }
 {
     if i % 64 == 63 {
-        let flow = run.flow;
-        let after = foreign::boundary(scope, flow, table, health, script, held, taken, n);
+        let flow = foreign::boundary(scope, run.flow, table, health, script, holds);
         let yielded = Run {
-            flow: after,
-            attempts: run.attempts,
+            flow,
             boundaries: run.boundaries + 1,
             yields: run.yields + 1,
+            ..run
         };
-        return spin(scope, yielded, table, health, script, held, taken, n);
+        return spin(scope, yielded, table, health, script, holds);
     }
-    spin(scope, run, table, health, script, held, taken, n)
+    spin(scope, run, table, health, script, holds)
 }
 
 // Attempt number i, and, if it was Busy, the pause after it.
+#[tactic(auto, unfolding(crate::specs::Model::again_of, model::specs::Lock::attempt_of))]
 fn again(
     i: usize,
     scope: Scope,
@@ -81,30 +77,21 @@ fn again(
     table: &mut [u32],
     health: &mut [u8],
     script: &[u32],
-    held: &[u32],
-    taken: &[[u32; 2]; 64],
-    n: usize,
+    holds: &Holds<'_>,
     target: Target,
 ) -> Attempted
-    requires { KeyFits scope (length table.old) (length health.old) n (length script.now) 1 0
+    requires { KeyFits scope (length table.old) (length health.old) holds.now.n (length script.now) 1 0
         × RunBound scope.steps try_most run }
     ensures { (result, (table.new, health.new))
-        ≡ again_of i (setting_of scope script.now held.now taken.now n)
+        ≡ again_of i (setting_of scope script.now holds.now.held.now holds.now.taken.now holds.now.n)
         scope.buckets (target.header ∷ []) 0 target.bucket
         run table.old health.old }
 {
     let found = find(scope, health, target);
-    let attempted = attempt(scope, run, table, health, script, held, taken, n, found);
-    let after = attempted.run;
-    let outcome = attempted.outcome;
-    let why = attempted.why;
-    if is_busy(outcome) {
-        let paused = pause(i, scope, after, table, health, script, held, taken, n);
-        return Attempted {
-            run: paused,
-            outcome,
-            why,
-        };
+    let attempted = attempt(scope, run, table, health, script, holds, found);
+    if is_busy(attempted.outcome) {
+        let run = pause(i, scope, attempted.run, table, health, script, holds);
+        return Attempted { run, ..attempted };
     }
     attempted
 }
@@ -113,9 +100,10 @@ fn again(
 fn concluded(attempted: Attempted) -> Tried
     ensures { result ≡ tried_of attempted.run attempted.outcome }
 {
-    let run = attempted.run;
-    let outcome = attempted.outcome;
-    Tried { run, outcome }
+    Tried {
+        run: attempted.run,
+        outcome: attempted.outcome,
+    }
 }
 
 // Attempts 0 to 4,095; a grant or a refusal ends it at once. After them all it is Busy, for the reason of the last.
@@ -126,17 +114,15 @@ pub fn retry(
     table: &mut [u32],
     health: &mut [u8],
     script: &[u32],
-    held: &[u32],
-    taken: &[[u32; 2]; 64],
-    n: usize,
+    holds: &Holds<'_>,
     registry: &[u32],
     binding: u32,
     bucket: u32,
 ) -> Tried
-    requires { KeyFits scope (length table.old) (length health.old) n (length script.now)
+    requires { KeyFits scope (length table.old) (length health.old) holds.now.n (length script.now)
         (length registry.now) binding × RunBound scope.steps call_most start }
     ensures { (result, (table.new, health.new))
-        ≡ (retry_of 4096 0 none_yet (setting_of scope script.now held.now taken.now n)
+        ≡ (retry_of 4096 0 none_yet (setting_of scope script.now holds.now.held.now holds.now.taken.now holds.now.n)
         scope.buckets registry.now binding bucket
         start table.old health.old).seen }
 {
@@ -144,18 +130,17 @@ pub fn retry(
     let target = Target { header, bucket };
     let mut run = start;
     let mut last = Reason::Before;
-    let mut i = 0;
-    while i < 4096 {
-        let attempted = again(i, scope, run, table, health, script, held, taken, n, target);
-        let outcome = attempted.outcome;
-        if is_busy(outcome) {
+    for i in 0..4096 {
+        let attempted = again(i, scope, run, table, health, script, holds, target);
+        if is_busy(attempted.outcome) {
             run = attempted.run;
             last = attempted.why;
         } else {
             return concluded(attempted);
         }
-        i += 1;
     }
-    let outcome = Outcome::Busy(last);
-    Tried { run, outcome }
+    Tried {
+        run,
+        outcome: Outcome::Busy(last),
+    }
 }

@@ -3,4 +3,5 @@ pub mod Moves
 pub mod Reply
 pub mod Places
 pub mod Turns
-pub mod Rests
+pub mod Idle
+pub mod Loop

@@ -1,8 +1,8 @@
 -- The crew's steps as the code makes them: a turn by numbers, what the loop over turns hands back, and the reply made of that.
-use Rattle.std.specs.Prelude.{ℕ, ◌+◌, ◌*◌, ◌-◌, ◌/◌, List, [], Bool, true, false, ltb, eqb, get_or, set, if◌then◌else◌}
+use Rattle.std.specs.Prelude.{ℕ, ◌+◌, ◌-◌, ◌/◌, List, Bool, true, false, ltb, eqb, get_or, set, if◌then◌else◌}
 use Rattle.model.specs.Arena.{spent_to, set_cell}
 use Rattle.model.specs.Foreign.{flow_of}
-use Rattle.model.specs.Crew.{Work, rests, adds, adds_of, Crew, crew_at, crew_start, moved, noted_at, added_to, turns_of, taken_of, released_of}
+use Rattle.model.specs.Crew.{Work, rests, adds, adds_of, moves_of, Crew, crew_at, crew_start, moved, noted_at, added_to, turns_of, taken_of, released_of}
 use Rattle.types.specs.declared.Answer.TheVariants.{Done}
 use Rattle.types.specs.declared.CrewReply.{CrewReply}
 use Rattle.types.specs.declared.Head.{Head}
@@ -14,9 +14,12 @@ use Rattle.crew.specs.declared.Move.{Move}
 use Rattle.crew.specs.declared.Move.TheVariants as move
 use Rattle.crew.specs.declared.Worked.{Worked}
 
--- where in the run of cells a member's move number n is: takes in order, then releases, last first
-unfoldable pub place_of : ℕ → ℕ → ℕ → ℕ
-place_of start n count = if ltb n count then start + n else start + (2 * count - 1 - n)
+-- where in the run of cells a member's move number n is: takes in order, then adds in order, then releases, last first
+unfoldable pub place_of : Work → ℕ → ℕ → ℕ → ℕ
+place_of work start n count =
+    if ltb n count then start + n
+    else if ltb n (count + adds_of work count) then start + (n - count)
+    else start + (moves_of work count - 1 - n)
 
 -- a grant moves; anything else is idle
 abbrev pub move_for : Outcome → ℕ → Move
@@ -52,6 +55,10 @@ work_move_of work next buckets t g counters n count c value =
     else if ltb n (count + adds_of work count) then (move.Moved, (t, added_to counters c value))
     else beside counters (make_move_of next buckets t g false c)
 
+-- what stands noted for a member behind a take
+unfoldable pub note_of : Bool → ℕ → List ℕ → ℕ → ℕ
+note_of full before counters low = if full then get_or counters low 0 else before
+
 -- the values noted after a move: only the take of the last cell notes one
 abbrev pub noted_by : Move → Bool → List ℕ → List ℕ → ℕ → ℕ → List ℕ
 noted_by move.Idle full noted counters m low = noted
@@ -66,11 +73,11 @@ after move.Moved t x ns w m k = crew_at w.next t (moved w.made m) w.serials (w.m
 
 -- ---- all turns, and the reply
 
-abbrev pub handed : Crew → Worked × List ℕ
-handed w = (record { next = w.next; moving = w.moving; idle = w.idle; made = w.made }, w.table)
+abbrev pub handed : Crew → Worked × (List ℕ × List ℕ)
+handed w = (record { next = w.next; moving = w.moving; idle = w.idle; made = w.made }, (w.table, w.counters))
 
-unfoldable pub take_turns_of : Head → List ℕ → List ℕ → List ℕ → List ℕ → List ℕ → Worked × List ℕ
-take_turns_of h t g counts cells turns = handed (turns_of rests h.headers h.buckets g counts cells (crew_start h t []) turns).seen
+unfoldable pub take_turns_of : Work → Head → List ℕ → List ℕ → List ℕ → List ℕ → List ℕ → List ℕ → Worked × (List ℕ × List ℕ)
+take_turns_of work h t g counts cells turns counters = handed (turns_of work h.headers h.buckets g counts cells (crew_start h t counters) turns).seen
 
 unfoldable pub finish_of : Work → Head → List ℕ → Worked → CrewReply
 finish_of work h counts k =
@@ -83,5 +90,5 @@ finish_of work h counts k =
       answer = Done;
     }
 
-unfoldable pub crew_run_of : Head → List ℕ → List ℕ → List ℕ → List ℕ → List ℕ → CrewReply × List ℕ
-crew_run_of h t g counts cells turns = let o = take_turns_of h t g counts cells turns in (finish_of rests h counts o.0, o.1)
+unfoldable pub crew_run_of : Work → Head → List ℕ → List ℕ → List ℕ → List ℕ → List ℕ → List ℕ → CrewReply × (List ℕ × List ℕ)
+crew_run_of work h t g counts cells turns counters = let o = take_turns_of work h t g counts cells turns counters in (finish_of work h counts o.0, o.1)

@@ -11,6 +11,12 @@ pub record Others (work : Work) (counts moves others : List ℕ) (m : ℕ) : Typ
   pub sixteen : length others ≡ 16
   pub each : (j : ℕ) → j < m → get_or others j 0 ≡ moves_of work (get_or counts j 0) - get_or moves j 0
 
+pub others_none : (work : Work) (counts moves : List ℕ) → Others work counts moves (replicate 16 0) 0
+others_none work counts moves = record { place = omega arith; sixteen = refl; each = λ j k. absurd (omega arith) }
+
+pub others_all : (work : Work) (counts moves others : List ℕ) (m : ℕ) → Others work counts moves others m → 16 ≤ m → Others work counts moves others 16
+others_all work counts moves others m o l = record { place = omega arith; sixteen = o.sixteen; each = λ j k. o.each j (omega arith) }
+
 pub others_more : (work : Work) (counts moves others : List ℕ) (m v : ℕ) → Others work counts moves others m → m < 16 → v ≡ moves_of work (get_or counts m 0) - get_or moves m 0
     → Others work counts moves (set others m v) (m + 1)
 others_more work counts moves others m v o l e =
@@ -19,6 +25,8 @@ others_more work counts moves others m v o l e =
     go : (j : ℕ) → Dec (j ≡ m) → j < m + 1 → get_or (set others m v) j 0 ≡ moves_of work (get_or counts j 0) - get_or moves j 0
     go j (yes p) k = rw p (get_or-set_same others m v 0 (omega (arith, o.sixteen)) ∙ e)
     go j (no p) k = get_or-set_other others m j v 0 p ∙ o.each j (omega arith)
+
+pub ruleset leaving = (others_none, others_more, others_all)
 
 -- both lists, between turns
 pub record MadeAndLeft (work : Work) (counts made left : List ℕ) : Type 0 where

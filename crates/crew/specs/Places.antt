@@ -1,9 +1,9 @@
 -- The place in the run of cells where an unfinished member moves, in either work.
 use Rattle.std.specs.Prelude.{ℕ, ◌+◌, ◌*◌, ◌-◌, ◌/◌, ◌≤◌, ◌<◌, ◌≡◌, List, length, get_or}
-use Rattle.std.proofs.Common.{subst, ◌∙◌, arith, lt-ltb, le-ltb}
+use Rattle.std.proofs.Common.{subst, arith, lt-ltb, le-ltb}
 use Rattle.std.proofs.Math.Decide.{dec_lt}
 use Rattle.model.specs.Arena.{cells_of}
-use Rattle.model.specs.Crew.{Work, rests, adds_of, moves_of, start_of}
+use Rattle.model.specs.Crew.{Work, adds_of, moves_of, start_of}
 use Rattle.types.specs.declared.Head.{Head}
 use Rattle.laws.specs.Crew.{adds_few, start_fits}
 use Rattle.lock.specs.Fine.{header_in}
@@ -17,20 +17,13 @@ pub record Placed (work : Work) (start n count k : ℕ) : Type 0 where
   pub giving : count + adds_of work count ≤ n → k ≡ start + (moves_of work count - 1 - n)
 
 -- what the code computes
-place_low : (start n count : ℕ) → n < count → place_of start n count ≡ start + n
+pub placed : (work : Work) (start n count : ℕ) → Placed work start n count (place_of work start n count)
 unfolding place_of
-place_low start n count l = rw (lt-ltb n count l)
-
-place_high : (start n count : ℕ) → count ≤ n → place_of start n count ≡ start + (2 * count - 1 - n)
-unfolding place_of
-place_high start n count l = rw (le-ltb n count l)
-
-pub placed_rests : (start n count k : ℕ) → k ≡ place_of start n count → Placed rests start n count k
-placed_rests start n count k e =
+placed work start n count =
     record {
-      taking = λ l. e ∙ place_low start n count l;
-      adding = λ a b. absurd (omega arith);
-      giving = λ l. omega (arith, e, place_high start n count (omega arith));
+      taking = λ l. rw (lt-ltb n count l);
+      adding = λ a b. rw (le-ltb n count a, lt-ltb n (count + adds_of work count) b);
+      giving = λ l. rw (le-ltb n count (omega arith), le-ltb n (count + adds_of work count) l);
     }
 
 -- it lies in the member's list
@@ -61,3 +54,10 @@ spot work h words bytes counts cells turns m start n k f l s p u =
       cell_fits = omega (arith, f.shape.words_are);
       header_fits = rw f.bytes_are (header_in h.headers h.buckets (get_or cells k 0) low);
     }
+
+-- a member's lowest cell, where its list begins
+pub lowest_in : (work : Work) (h : Head) (words bytes : ℕ) (counts cells turns : List ℕ) (m start : ℕ) → CrewFine h words bytes counts cells turns → m < length counts → start ≡ start_of counts m
+    → 1 ≤ get_or counts m 0 → Spot h words bytes cells start
+lowest_in work h words bytes counts cells turns m start f l s some =
+    let first : Placed work start 0 (get_or counts m 0) start = record { taking = λ _. omega arith; adding = λ a _. absurd (omega arith); giving = λ a. absurd (omega arith) } in
+    spot work h words bytes counts cells turns m start 0 start f l s first (omega arith)

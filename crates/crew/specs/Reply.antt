@@ -1,5 +1,5 @@
 -- Laws of the reply's two arrays, as a loop over the members fills them.
-use Rattle.std.specs.Prelude.{ℕ, suc, ◌+◌, ◌-◌, ◌≤◌, ◌<◌, min, ◌≡◌, List, [], ◌∷◌, ◌++◌, length, get_or, set, take}
+use Rattle.std.specs.Prelude.{ℕ, suc, ◌+◌, ◌-◌, ◌≤◌, ◌<◌, min, ◌≡◌, List, [], ◌∷◌, ◌++◌, refl, length, get_or, set, take, replicate}
 use Rattle.std.proofs.Common.{sym, ap, ◌∙◌, append_assoc, append-nil, arith, add-one, length-set, take-suc-set, take_all}
 use Rattle.model.specs.Crew.{Work, adds_of, taken_of, released_of}
 
@@ -35,6 +35,9 @@ pub record Filling (work : Work) (counts made taken released : List ℕ) (m : �
   pub taken_rest : take m taken ++ taken_of (16 - m) m counts made ≡ taken_of 16 0 counts made
   pub released_rest : take m released ++ released_of work (16 - m) m counts made ≡ released_of work 16 0 counts made
 
+pub filling_none : (work : Work) (counts made : List ℕ) → Filling work counts made (replicate 16 0) (replicate 16 0) 0
+filling_none work counts made = record { place = omega arith; taken_length = refl; released_length = refl; taken_rest = refl; released_rest = refl }
+
 module _ (work : Work) (counts made taken released : List ℕ) (m : ℕ) (f : Filling work counts made taken released m) where
   pub filling_more : (a b : ℕ) → m < 16 → a ≡ min (get_or made m 0) (get_or counts m 0) → b ≡ get_or made m 0 - get_or counts m 0 - adds_of work (get_or counts m 0)
       → Filling work counts made (set taken m a) (set released m b) (m + 1)
@@ -57,3 +60,5 @@ module _ (work : Work) (counts made taken released : List ℕ) (m : ℕ) (f : Fi
 
   pub released_filled : 16 ≤ m → released ≡ released_of work 16 0 counts made
   released_filled l = fill_end released m _ (omega (arith, f.released_length)) (ap (λ (x : List ℕ). take m released ++ x) (sym (released_end work m counts made l)) ∙ f.released_rest)
+
+pub ruleset filling = (filling_none, filling_more, taken_filled, released_filled)

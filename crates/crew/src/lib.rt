@@ -1,22 +1,25 @@
-// The crew: up to sixteen members take turns, each taking the cells of its list in order and then releasing them, last
-// first. The parts that are `pub` serve crate `crew_at_work` too, where members add between.
+// The crew: up to sixteen members take turns, each taking the cells of its list in order, adding to their counters in a
+// crew at work (document 02, L13), and then releasing them, last first. `ADDING` says which of the two works it is:
+// crate `crew_at_work` has the call of the other. The parts that are `pub` serve it too.
 // Functions with a `requires` are parts: the call has tested shape, limits, lists and turns, and a part tests nothing
 // twice.
 #![tactic(auto)]
 
-ghost use Rattle.std.specs.Prelude.{◌≡◌, ◌+◌, ◌*◌, ◌-◌, ◌/◌, ◌<◌, ◌≤◌, min, length, get_or};
+ghost use Rattle.std.specs.Prelude.{◌≡◌, ◌+◌, ◌*◌, ◌/◌, ◌<◌, ◌≤◌, true, length, slice_index};
 ghost use Rattle.model.specs.Refusals.{first};
-ghost use Rattle.model.specs.Crew.{adds_of, crew_rules, crew_refused, crew_of};
+ghost use Rattle.model.specs.Crew.{adds_of, moves_of, added_to, crew_rules, crew_refused, crew_of};
 ghost use Rattle.crew_plan.specs.Starts.{Begun};
 ghost use Rattle.crew_plan.specs.Fine.{CrewFine};
+ghost use Rattle.crew.specs.Idle.{OfSixteen, IdleTo};
 ghost use Rattle.crew.specs.Moves.{Others};
-ghost use Rattle.crew.specs.Model.{place_of, try_move_of, make_move_of, take_turns_of, work_by, finish_of, crew_run_of};
+ghost use Rattle.crew.specs.Model.{work_by, place_of, note_of, try_move_of, make_move_of, work_move_of};
+ghost use Rattle.crew.specs.Model.{take_turns_of, finish_of, crew_run_of};
 
-use types::{Answer, Check, CrewReply, Flow, Head, Outcome, Refusal};
+use types::{Answer, CrewReply, Flow, Head, Outcome, Refusal};
 
 // What a turn comes to; a take hands on the next serial and the one it took.
 #[derive(Clone, Copy)]
-pub enum Move {
+enum Move {
     Idle,
     Took(u32, u32),
     Moved,
@@ -24,16 +27,17 @@ pub enum Move {
 
 // What all turns come to, besides the table.
 #[derive(Clone, Copy)]
-pub struct Worked {
-    pub next: u32,
-    pub moving: usize,
-    pub idle: usize,
-    pub made: [usize; 16],
+struct Worked {
+    next: u32,
+    moving: usize,
+    idle: usize,
+    made: [usize; 16],
 }
 
 // ---- the checks
 
 // 1, and then 15.
+#[tactic(auto, using(crew_plan::specs::Fine::testing), unfolding(model::specs::Crew::crew_rules))]
 fn crew_check(
     head: Head,
     table: &[u32],
@@ -41,32 +45,69 @@ fn crew_check(
     counts: &[u32],
     cells: &[u32],
     turns: &[u32],
-) -> Check
+) -> Result<(), Refusal>
     ensures { result
         ≡ first (crew_rules head table.now health.now
         counts.now cells.now turns.now) }
 {
-    let shape = arena::arena_fault(head, table, health);
-    match shape {
-        Check::Fault(refusal) => Check::Fault(refusal),
-        Check::Fine => crew_plan::plan_fault(head.headers * head.buckets, counts, cells, turns),
+    arena::arena_fault(head, table, health)?;
+    crew_plan::plan_fault(head.headers * head.buckets, counts, cells, turns)
+}
+
+// ---- the moves that a member has made, and those that it has left
+
+// A member's count; past the last member it is 0.
+fn count_of(counts: &[u32], m: usize) -> usize
+    ensures { result ≡ slice_index counts.now m }
+{
+    counts.get(m).copied().unwrap_or(0) as usize
+}
+
+// How many moves a member with so many cells adds in: none in document 01's run.
+fn adds_of<const ADDING: bool>(count: usize) -> usize
+    ensures { result ≡ adds_of (work_by ADDING) count }
+{
+    if ADDING { count } else { 0 }
+}
+
+// Of all moves of each member, those that are not among these: what is left beside what is made, and what is made
+// beside what is left. Sixteen places, as in the reply: no heap. A call of its own, or the array is spread over
+// registers.
+#[inline(never)]
+#[tactic(auto, using(crate::specs::Moves::leaving, laws::specs::Crew::adds_few))]
+fn other_moves<const ADDING: bool>(counts: &[u32], moves: &[usize; 16]) -> [usize; 16]
+    ensures { Others (work_by ADDING) counts.now moves.now result 16 }
+{
+    let mut others = [0usize; 16];
+    for m in 0..16 {
+        let count = count_of(counts, m);
+        let all = 2 * count + adds_of::<ADDING>(count);
+        others[m] = all.saturating_sub(moves[m]);
     }
+    others
 }
 
 // ---- one turn
 
-// Where in the run of cells a member's next move is: the next cell it has not taken, or the last it still holds.
-fn place(start: usize, n: usize, count: usize) -> usize
-    requires { (start + count ≤ 256) × (n < 2 * count) }
-    ensures { result ≡ place_of start n count }
+// The cell of a member's next move: the next that it has not taken, the next that it has not added to, or the last that
+// it still holds. It is read where the move is told, so that no place is chosen twice.
+#[tactic(auto, unfolding(crate::specs::Model::place_of))]
+fn cell_of<const ADDING: bool>(cells: &[u32], start: usize, n: usize, count: usize) -> u32
+    requires { (start + count ≤ length cells.now) × ((length cells.now ≤ 256) × (n < moves_of (work_by ADDING) count)) }
+    ensures { result ≡ slice_index cells.now (place_of (work_by ADDING) start n count) }
 {
+    let adds = adds_of::<ADDING>(count);
     if n < count {
-        return start + n;
+        return cells[start + n];
     }
-    start + (2 * count - 1 - n)
+    if n < count + adds {
+        return cells[start + (n - count)];
+    }
+    cells[start + (2 * count + adds - 1 - n)]
 }
 
 // One try_lock with no script, on a cell whose header was read healthy: it is the quiet one.
+#[tactic(auto, unfolding(crate::specs::Model::try_move_of))]
 fn try_move(head: Head, next: u32, table: &mut [u32], cell: u32) -> Move
     requires { 3 * cell + 2 < length table.old }
     ensures { (result, table.new) ≡ try_move_of next table.old cell }
@@ -77,93 +118,101 @@ fn try_move(head: Head, next: u32, table: &mut [u32], cell: u32) -> Move
         dropped: 0,
     };
     let locked = lock::quiet_lock(head, flow, table, cell);
-    let after = locked.flow;
-    let answer = locked.answer;
-    match answer {
-        Outcome::Granted(lease) => Move::Took(after.next, lease.serial),
+    match locked.answer {
+        Outcome::Granted(hold) => Move::Took(locked.flow.next, hold.serial),
         Outcome::Busy(_) => Move::Idle,
         Outcome::Refused(_) => Move::Idle,
     }
 }
 
-// One turn of a member that is not finished: a health reading and a try_lock, or a release of a cell that it holds.
-pub fn make_move(
+// A turn of a member that takes: a health reading and a try_lock.
+#[tactic(auto, unfolding(crate::specs::Model::make_move_of))]
+fn take(head: Head, next: u32, table: &mut [u32], health: &[u8], cell: u32) -> Move
+    requires { (3 * cell + 2 < length table.old)
+        × ((1 ≤ head.buckets) × (cell / head.buckets < length health.now)) }
+    ensures { (result, table.new) ≡ make_move_of next head.buckets table.old health.now true cell }
+{
+    let header = cell / head.buckets;
+    if health[header as usize] == 0 {
+        return try_move(head, next, table, cell);
+    }
+    Move::Idle
+}
+
+// One cell's add; the sum wraps.
+#[tactic(auto, using(std::proofs::lemmas::List::set_past), unfolding(model::specs::Crew::summed_of))]
+fn add(counters: &mut [u16], cell: u32, value: u16)
+    ensures { counters.new ≡ added_to counters.old cell value }
+{
+    let at = cell as usize;
+    if at < counters.len() {
+        counters[at] = counters[at].wrapping_add(value);
+    }
+}
+
+// One turn of a member that is not finished: a take of this cell, an add of this value to its counter, or its release.
+#[tactic(auto, unfolding(crate::specs::Model::make_move_of, crate::specs::Model::work_move_of))]
+fn work_move<const ADDING: bool>(
     head: Head,
     next: u32,
     table: &mut [u32],
     health: &[u8],
-    taking: bool,
+    counters: &mut [u16],
+    n: usize,
+    count: usize,
     cell: u32,
+    value: u16,
 ) -> Move
-    requires { (3 * cell + 2 < length table.old)
-        × ((1 ≤ head.buckets) × (cell / head.buckets < length health.now)) }
-    ensures { (result, table.new)
-        ≡ make_move_of next head.buckets table.old health.now taking cell }
+    requires { (3 * cell + 2 < length table.old) × ((1 ≤ head.buckets)
+        × ((cell / head.buckets < length health.now) × (count ≤ 64))) }
+    ensures { (result, (table.new, counters.new))
+        ≡ work_move_of (work_by ADDING) next head.buckets table.old health.now
+        counters.old n count cell value }
 {
-    if taking {
-        let header = (cell / head.buckets) as usize;
-        if health[header] == 0 {
-            return try_move(head, next, table, cell);
-        }
-        return Move::Idle;
+    if n < count {
+        return take(head, next, table, health, cell);
     }
-    arena::release(table, cell);
+    if n < count + adds_of::<ADDING>(count) {
+        add(counters, cell, value);
+    } else {
+        arena::release(table, cell);
+    }
     Move::Moved
 }
 
-// ---- the moves that a member has made, and those that it has left
-
-// A member's count; past the last member it is 0.
-fn count_of(counts: &[u32], m: usize) -> usize
-    ensures { result ≡ get_or counts.now m 0 }
+// What stands noted for a member behind a take: the counter of its lowest cell, if it holds all now.
+#[tactic(auto, unfolding(crate::specs::Model::note_of))]
+fn note(full: bool, before: u16, counters: &[u16], low: u32) -> u16
+    ensures { result ≡ note_of full before counters.now low }
 {
-    if m < counts.len() {
-        return counts[m] as usize;
+    if full {
+        return counters.get(low as usize).copied().unwrap_or(0);
     }
-    0
-}
-
-// How much a is beyond b.
-fn beyond(a: usize, b: usize) -> usize
-    ensures { result ≡ a - b }
-{
-    if a < b {
-        return 0;
-    }
-    a - b
-}
-
-// How many moves a member with so many cells adds in: none in document 01's run.
-fn adds_of(adding: bool, count: usize) -> usize
-    ensures { result ≡ adds_of (work_by adding) count }
-{
-    if adding {
-        return count;
-    }
-    0
-}
-
-// Of all moves of each member, those that are not among these: what is left beside what is made, and what is made
-// beside what is left.
-pub fn other_moves(counts: &[u32], moves: &[usize; 16], adding: bool) -> [usize; 16]
-    ensures { Others (work_by adding) counts.now moves.now result 16 }
-{
-    let mut others = [0usize; 16];
-    let mut m = 0;
-    while m < 16 {
-        let count = count_of(counts, m);
-        others[m] = beyond(2 * count + adds_of(adding, count), moves[m]);
-        m += 1;
-    }
-    others
+    before
 }
 
 // ---- all turns
 
-// The turns in order, from a crew that holds nothing. What moves are left is counted down here and a turn gets numbers:
-// of a member that has finished, one number is read and nothing is stored.
+// The first turn from here on whose member has a move left, or the end: those before it are idle.
+#[tactic(auto, using(crate::specs::Idle::passing))]
+fn pass_idle(turns: &[u32], left: &[usize; 16], from: usize) -> usize
+    requires { (from ≤ length turns.now) × OfSixteen turns.now }
+    ensures { IdleTo turns.now left.now from result }
+{
+    for i in from..turns.len() {
+        if left[turns[i] as usize] != 0 {
+            return i;
+        }
+    }
+    turns.len()
+}
+
+// The turns in order, from a crew that holds nothing. What moves are left is counted down here and a turn gets numbers.
+// Idle turns in a row have a loop of their own, since the loop of moves has more lent runs than registers: so no `for`.
+// A search for the next turn that moves took 1.16 times the instructions; arms that meet again took 1.07 times.
 // No serial is kept: a release compares it with nothing, since only its holder ever names a cell.
-fn take_turns(
+// (b) No `for`: as a `while let` over the next turn that moves it took 1.16 times the instructions.
+fn take_turns<const ADDING: bool>(
     head: Head,
     table: &mut [u32],
     health: &[u8],
@@ -171,34 +220,39 @@ fn take_turns(
     cells: &[u32],
     starts: &[usize; 16],
     turns: &[u32],
+    counters: &mut [u16],
 ) -> Worked
     requires { CrewFine head (length table.old) (length health.now) counts.now cells.now turns.now
         × Begun counts.now starts.now }
-    ensures { (result, table.new)
-        ≡ take_turns_of head table.old health.now
-        counts.now cells.now turns.now }
+    ensures { (result, (table.new, counters.new))
+        ≡ take_turns_of (work_by ADDING) head table.old health.now
+        counts.now cells.now turns.now counters.old }
 {
-    let none = [0usize; 16];
-    let mut left = other_moves(counts, &none, false);
+    let mut left = other_moves::<ADDING>(counts, &[0; 16]);
+    let mut noted = [0u16; 16];
     let mut next = head.next;
     let mut moving: usize = 0;
     let mut i: usize = 0;
     while i < turns.len() {
         let m = turns[i] as usize;
-        i += 1;
         let more = left[m];
+        i += 1;
         if more == 0 {
+            i = pass_idle(turns, &left, i);
             continue;
         }
         let count = counts[m] as usize;
-        let n = 2 * count - more;
-        let k = place(starts[m], n, count);
-        match make_move(head, next, table, health, n < count, cells[k]) {
+        let n = 2 * count + adds_of::<ADDING>(count) - more;
+        let start = starts[m];
+        let cell = cell_of::<ADDING>(cells, start, n, count);
+        let value = noted[m];
+        match work_move::<ADDING>(head, next, table, health, counters, n, count, cell, value) {
             Move::Idle => continue,
             Move::Took(after, _) => {
                 next = after;
                 left[m] = more - 1;
                 moving += 1;
+                noted[m] = note(n + 1 == count, value, counters, cells[start]);
                 continue;
             }
             Move::Moved => {
@@ -208,40 +262,32 @@ fn take_turns(
             }
         }
     }
-    let idle = turns.len() - moving;
-    let made = other_moves(counts, &left, false);
     Worked {
         next,
         moving,
-        idle,
-        made,
+        idle: turns.len() - moving,
+        made: other_moves::<ADDING>(counts, &left),
     }
 }
 
 // ---- the reply
 
-fn lesser(a: usize, b: usize) -> usize
-    ensures { result ≡ min a b }
-{
-    if a < b {
-        return a;
-    }
-    b
-}
-
-// A member's first moves are its takes, and those beyond its takes and adds are its releases.
-pub fn finish(head: Head, counts: &[u32], worked: Worked, adding: bool) -> CrewReply
-    ensures { result ≡ finish_of (work_by adding) head counts.now worked }
+// A member's first moves are its takes, and those beyond its takes and adds are its releases. A call of its own, or the
+// reply's arrays are spread over each refusal of the checks, 48 instructions a cell.
+#[inline(never)]
+#[tactic(auto, using(crate::specs::Reply::filling), unfolding(crate::specs::Model::finish_of))]
+fn finish<const ADDING: bool>(head: Head, counts: &[u32], worked: Worked) -> CrewReply
+    ensures { result ≡ finish_of (work_by ADDING) head counts.now worked }
 {
     let made = worked.made;
     let mut taken = [0usize; 16];
     let mut released = [0usize; 16];
-    let mut m = 0;
-    while m < 16 {
+    for m in 0..16 {
         let count = count_of(counts, m);
-        taken[m] = lesser(made[m], count);
-        released[m] = beyond(beyond(made[m], count), adds_of(adding, count));
-        m += 1;
+        taken[m] = made[m].min(count);
+        released[m] = made[m]
+            .saturating_sub(count)
+            .saturating_sub(adds_of::<ADDING>(count));
     }
     CrewReply {
         head: head.spent_to(worked.next),
@@ -257,34 +303,35 @@ pub fn finish(head: Head, counts: &[u32], worked: Worked, adding: bool) -> CrewR
 pub fn refuse(head: Head, refusal: Refusal) -> CrewReply
     ensures { result ≡ crew_refused head refusal }
 {
-    let none = [0usize; 16];
     CrewReply {
         head,
         moving: 0,
         idle: 0,
-        taken: none,
-        released: none,
+        taken: [0; 16],
+        released: [0; 16],
         answer: Answer::Refused(refusal),
     }
 }
 
 // The turns of a call whose checks are fine.
-fn crew_run(
+#[tactic(auto, unfolding(crate::specs::Model::crew_run_of))]
+pub fn crew_run<const ADDING: bool>(
     head: Head,
     table: &mut [u32],
     health: &[u8],
     counts: &[u32],
     cells: &[u32],
     turns: &[u32],
+    counters: &mut [u16],
 ) -> CrewReply
     requires { CrewFine head (length table.old) (length health.now) counts.now cells.now turns.now }
-    ensures { (result, table.new)
-        ≡ crew_run_of head table.old health.now
-        counts.now cells.now turns.now }
+    ensures { (result, (table.new, counters.new))
+        ≡ crew_run_of (work_by ADDING) head table.old health.now
+        counts.now cells.now turns.now counters.old }
 {
     let starts = crew_plan::starts_of(counts);
-    let worked = take_turns(head, table, health, counts, cells, &starts, turns);
-    finish(head, counts, worked, false)
+    let worked = take_turns::<ADDING>(head, table, health, counts, cells, &starts, turns, counters);
+    finish::<ADDING>(head, counts, worked)
 }
 
 // ---- the call
@@ -304,9 +351,8 @@ pub fn crew(
         ≡ (crew_of head table.old health.now
         counts.now cells.now turns.now).seen }
 {
-    let check = crew_check(head, table, health, counts, cells, turns);
-    match check {
-        Check::Fault(refusal) => refuse(head, refusal),
-        Check::Fine => crew_run(head, table, health, counts, cells, turns),
+    match crew_check(head, table, health, counts, cells, turns) {
+        Err(refusal) => refuse(head, refusal),
+        Ok(()) => crew_run::<false>(head, table, health, counts, cells, turns, &mut []),
     }
 }

@@ -1,15 +1,14 @@
 -- The call's own result: what it is where it is not refused, whom its order names, and what members still owe as the log tells it.
-use Rattle.std.specs.Prelude.{ℕ, ◌+◌, ◌-◌, min, ◌≤◌, ◌<◌, ◌≡◌, refl, List, ◌⊎◌, length, get_or}
+use Rattle.std.specs.Prelude.{ℕ, ◌+◌, ◌-◌, min, ◌≤◌, ◌<◌, ◌≡◌, refl, List, ◌⊎◌, length, get_or, Ok, Err}
 use Rattle.std.proofs.Common.{sym, ◌∙◌, append-nil, inl, inr, arith, le-leb}
 use Rattle.std.proofs.Math.Decide.{dec_lt}
 use Rattle.std.proofs.lemmas.Bool.{lt-leb}
+use Rattle.types.specs.Checks.{Check}
 use Rattle.model.specs.Log.{Made, Event}
 use Rattle.model.specs.Arena.{cells_of, spent_to}
 use Rattle.model.specs.Refusals.{first}
 use Rattle.model.specs.Crew.{adds, moves_of, summed_of, start_of, count_of, crew_at_work_rules, Crew, crew_start, taken_of, released_of, shift_of, crew_at_work_of, order_of}
 use Rattle.types.specs.declared.Answer.TheVariants.{Done}
-use Rattle.types.specs.declared.Check.{Check}
-use Rattle.types.specs.declared.Check.TheVariants.{Fine, Fault}
 use Rattle.types.specs.declared.CrewReply.{CrewReply}
 use Rattle.types.specs.declared.Head.{Head}
 use Rattle.laws.specs.Lists.{zeros}
@@ -27,15 +26,15 @@ use Rattle.crew_at_work_theory.specs.Due.{Due}
 
 -- a reply that says done was not refused
 pub done_fine : (h : Head) (t g counts cells turns counters : List ℕ) → (crew_at_work_of h t g counts cells turns counters).seen.0.answer ≡ Done
-    → first (crew_at_work_rules h t g counts cells turns counters) ≡ Fine
+    → first (crew_at_work_rules h t g counts cells turns counters) ≡ Ok tt
 unfolding crew_at_work_of
 done_fine h t g counts cells turns counters e = go (first (crew_at_work_rules h t g counts cells turns counters)) refl
   where
-    go : (k : Check) → first (crew_at_work_rules h t g counts cells turns counters) ≡ k → first (crew_at_work_rules h t g counts cells turns counters) ≡ Fine
-    go Fine p = p
-    go (Fault r) p = let q = rw p at e in let z : ◌≡◌ {A = ℕ} 0 1 = cc in absurd (omega arith)
+    go : (k : Check) → first (crew_at_work_rules h t g counts cells turns counters) ≡ k → first (crew_at_work_rules h t g counts cells turns counters) ≡ Ok tt
+    go (Ok tt) p = p
+    go (Err r) p = let q = rw p at e in let z : ◌≡◌ {A = ℕ} 0 1 = cc in absurd (omega arith)
 
-module _ (h : Head) (t g counts cells turns counters : List ℕ) (fine : first (crew_at_work_rules h t g counts cells turns counters) ≡ Fine) where
+module _ (h : Head) (t g counts cells turns counters : List ℕ) (fine : first (crew_at_work_rules h t g counts cells turns counters) ≡ Ok tt) where
   pub fit : Fits h (length t) counts cells
   fit = fits h t g counts cells turns (fine_at_work h t g counts cells turns counters fine).1
 

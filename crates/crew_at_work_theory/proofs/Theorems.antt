@@ -1,12 +1,11 @@
 -- The theorems of this crate by the names of their statements.
-use Rattle.std.specs.Prelude.{ℕ, ◌<◌, ◌≡◌, refl, List, length, get_or}
+use Rattle.std.specs.Prelude.{ℕ, ◌<◌, ◌≡◌, refl, List, length, get_or, Ok, Err}
 use Rattle.std.proofs.Common.{sym, ap, ◌∙◌, subst, arith, ext_get_or}
 use Rattle.std.proofs.Math.Decide.{dec_lt}
 use Rattle.std.proofs.Math.ListN.{get_or-eq_default}
+use Rattle.types.specs.Checks.{Check}
 use Rattle.model.specs.Refusals.{first}
 use Rattle.model.specs.Crew.{adds, summed_of, crew_at_work_rules, crew_start, crew_at_work_of, order_of}
-use Rattle.types.specs.declared.Check.{Check}
-use Rattle.types.specs.declared.Check.TheVariants.{Fine, Fault}
 use Rattle.types.specs.declared.Head.{Head}
 use Rattle.laws.specs.Crew.{member}
 use Rattle.crew_at_work_theory.specs.Statements.{replay_of, AllFinished, OneAfterAnother, OverRemainders, counters_by, AddsAreAll, SumsWrap, StaysLow, Owes, OwesOnly, AsReplayed, NamedOnce, ReleasedFirst, AnyOrder}
@@ -18,7 +17,7 @@ use Rattle.crew_at_work_theory.specs.Counters.{counters_long, turns_count}
 use Rattle.crew_at_work_theory.specs.Wraps.{counters_at, replay_remainders}
 use Rattle.crew_at_work_theory.proofs.Once.{done_fine, fit, wide, end, log, reply, result_is, at_most_once, owes_so, owes_none, named_so, all_moved}
 
-module _ (h : Head) (t g counts cells turns counters : List ℕ) (fine : first (crew_at_work_rules h t g counts cells turns counters) ≡ Fine) where
+module _ (h : Head) (t g counts cells turns counters : List ℕ) (fine : first (crew_at_work_rules h t g counts cells turns counters) ≡ Ok tt) where
   abbrev replayed : List ℕ
   replayed = replay_of counts cells counters (order_of (log h t g counts cells turns counters fine))
 
@@ -59,8 +58,8 @@ adds_are_all h t g counts cells turns counters = go (first (crew_at_work_rules h
   where
     go : (k : Check) → first (crew_at_work_rules h t g counts cells turns counters) ≡ k
         → (crew_at_work_of h t g counts cells turns counters).seen.1.1 ≡ counters_by counters (crew_at_work_of h t g counts cells turns counters).log
-    go Fine e = rw (result_is h t g counts cells turns counters e) (turns_count adds h g counts cells (crew_start h t counters) turns)
-    go (Fault r) e = rw e
+    go (Ok tt) e = rw (result_is h t g counts cells turns counters e) (turns_count adds h g counts cells (crew_start h t counters) turns)
+    go (Err r) e = rw e
 
 pub sums_wrap : SumsWrap crew_at_work_of
 sums_wrap h t g counts cells turns counters done low c l =

@@ -1,19 +1,18 @@
 -- What a crew's call knows once its checks are fine.
-use Rattle.std.specs.Prelude.{ℕ, zero, suc, ◌+◌, ◌<◌, ◌≡◌, List, [], ◌∷◌, ◌++◌, length, get_or}
+use Rattle.std.specs.Prelude.{ℕ, zero, suc, ◌+◌, ◌<◌, ◌≡◌, List, [], ◌∷◌, ◌++◌, length, get_or, Ok}
 use Rattle.std.proofs.Common.{arith, leb-false}
 use Rattle.model.specs.Arena.{cells_of}
 use Rattle.model.specs.Refusals.{first}
 use Rattle.model.specs.Checks.{bad_shape, bad_health}
 use Rattle.model.specs.Crew.{start_of, bad_limits, bad_lists, bad_turns, crew_rules}
-use Rattle.types.specs.declared.Check.TheVariants.{Fine}
 use Rattle.types.specs.declared.Head.{Head}
 use Rattle.laws.specs.Shape.{Shaped}
-use Rattle.laws.specs.Checks.{or_else, first_append, first_two, fine_rest, fine_append, arena_fine}
+use Rattle.laws.specs.Checks.{refused_two, passed_two, fine_rest, fine_append, arena_fine}
 use Rattle.laws.specs.Crew.{Limited, limits_fine, cell_inside}
 
 -- ---- turns
 
-turns_name : (members i : ℕ) (ms : List ℕ) → first (bad_turns members i ms) ≡ Fine → (j : ℕ) → j < length ms → get_or ms j 0 < members
+turns_name : (members i : ℕ) (ms : List ℕ) → first (bad_turns members i ms) ≡ Ok tt → (j : ℕ) → j < length ms → get_or ms j 0 < members
 unfolding bad_turns
 turns_name members i [] e j l = absurd (omega arith)
 turns_name members i (m ∷ ms) e zero l = leb-false members m (fine_rest _ _ e).0
@@ -29,25 +28,10 @@ pub record CrewFine (h : Head) (words bytes : ℕ) (counts cells turns : List �
   pub inside : (m j : ℕ) → m < length counts → j < get_or counts m 0 → get_or cells (start_of counts m + j) 0 < cells_of h
   pub named : (i : ℕ) → i < length turns → get_or turns i 0 < length counts
 
--- one check behind the other
-pub names_then : (inside : ℕ) (counts cells turns : List ℕ)
-    → first (bad_lists (length counts) 0 inside counts cells ++ bad_turns (length counts) 0 turns)
-    ≡ or_else (first (bad_lists (length counts) 0 inside counts cells)) (first (bad_turns (length counts) 0 turns))
-names_then inside counts cells turns = first_append (bad_lists (length counts) 0 inside counts cells) (bad_turns (length counts) 0 turns)
+-- one check behind the other: what is tested first is the arena
+pub ruleset testing = (refused_two, passed_two, arena_fine)
 
-pub plan_then : (inside : ℕ) (counts cells turns : List ℕ)
-    → first (bad_limits counts cells turns ∷ (bad_lists (length counts) 0 inside counts cells ++ bad_turns (length counts) 0 turns))
-    ≡ or_else (first (bad_limits counts cells turns ∷ [])) (first (bad_lists (length counts) 0 inside counts cells ++ bad_turns (length counts) 0 turns))
-plan_then inside counts cells turns = first_two (bad_limits counts cells turns) _
-
-pub crew_then : (h : Head) (t g counts cells turns : List ℕ)
-    → first (crew_rules h t g counts cells turns)
-    ≡ or_else (first (bad_shape h t ∷ bad_health h g ∷ []))
-    (first (bad_limits counts cells turns ∷ (bad_lists (length counts) 0 (cells_of h) counts cells ++ bad_turns (length counts) 0 turns)))
-unfolding crew_rules
-crew_then h t g counts cells turns = first_append (bad_shape h t ∷ bad_health h g ∷ []) _
-
-pub crew_fine : (h : Head) (t g counts cells turns : List ℕ) → first (crew_rules h t g counts cells turns) ≡ Fine
+pub crew_fine : (h : Head) (t g counts cells turns : List ℕ) → first (crew_rules h t g counts cells turns) ≡ Ok tt
     → CrewFine h (length t) (length g) counts cells turns
 unfolding crew_rules
 crew_fine h t g counts cells turns e =

@@ -47,3 +47,5 @@ begin_more counts starts start m few l small b =
 
 pub begin_done : (counts starts : List ℕ) (start m : ℕ) → length counts ≤ m → Beginning counts starts start m → Begun counts starts
 begin_done counts starts start m l b = record { sixteen = b.sixteen; begins = λ j k. b.begins j (omega arith) }
+
+pub ruleset beginning = (start_first, start_next, begin_more, begin_done)

@@ -1,189 +1,152 @@
 // The plan of a crew's run, for document 01's and document 02's: what its limits, lists and turns must keep, and where
 // each member's list begins.
 // Functions with a `requires` are parts: the call has tested the limits, and a part tests nothing twice.
+// (d) The plan stays three lent runs, as `skid_crew` is given them: of a struct of three references each clause says
+// `plan.entry.counts.now` for `counts.now`.
 #![tactic(auto)]
 
-ghost use Rattle.std.specs.Prelude.{◌≡◌, ◌&&◌, [], ◌∷◌, ◌++◌, leb, ◌+◌, ◌≤◌, length, take, drop};
+ghost use Rattle.std.specs.Prelude.{◌≡◌, [], ◌∷◌, ◌++◌, ◌≤◌, length};
 ghost use Rattle.model.specs.Refusals.{first};
 ghost use Rattle.model.specs.Crew.{total, all_within, bad_limits, rises_from, bad_lists, bad_turns};
 ghost use Rattle.crew_plan.specs.Starts.{Begun};
 
-use types::{Check, Refusal};
+use types::Refusal;
 
 // ---- the checks: limits, then lists by member, then turns by position
 
-// Whether a number keeps the limit, and those before it did.
-fn still_within(before: bool, n: u32, most: u32) -> bool
-    ensures { result ≡ (leb n most && before) }
-{
-    if most < n {
-        return false;
-    }
-    before
-}
-
-// Whether each of these numbers keeps the limit. The scan ends at no fault, so that the compiler takes several at once.
+// Whether each of these numbers keeps the limit. The scan ends at no fault, as `all` would, so that the compiler takes
+// several at once.
+#[tactic(auto, using(crate::specs::Lists::scanning))]
 fn all_within(most: u32, list: &[u32]) -> bool
     ensures { result ≡ all_within most list.now }
 {
     let mut fit = true;
-    let mut i = 0;
-    while i < list.len() {
-        fit = still_within(fit, list[i], most);
-        i += 1;
+    for &n in list {
+        fit &= n <= most;
     }
     fit
 }
 
 // How many cells the lists have in all. So few counts of 32 bits cannot wrap.
+#[tactic(auto, using(crate::specs::Lists::total_sum))]
 fn total_of(counts: &[u32]) -> usize
     requires { length counts.now ≤ 16 }
     ensures { result ≡ total counts.now }
 {
-    let mut sum: usize = 0;
-    let mut i = 0;
-    while i < counts.len() {
-        sum += counts[i] as usize;
-        i += 1;
-    }
-    sum
+    counts.iter().map(|&count| count as usize).sum()
 }
 
-fn limits_fault(counts: &[u32], cells: &[u32], turns: &[u32]) -> Check
+#[tactic(auto, unfolding(model::specs::Refusals::first, types::specs::Head::within))]
+fn limits_fault(counts: &[u32], cells: &[u32], turns: &[u32]) -> Result<(), Refusal>
     ensures { result ≡ first (bad_limits counts.now cells.now turns.now ∷ []) }
 {
-    let bad = Check::Fault(Refusal::BadCrew(0));
-    if counts.len() < 1 {
+    let bad = Err(Refusal::BadCrew(0));
+    if !(1..=16).contains(&counts.len()) || !all_within(64, counts) {
         return bad;
     }
-    if 16 < counts.len() {
+    let all = total_of(counts);
+    if 256 < all || cells.len() != all || 65536 < turns.len() {
         return bad;
     }
-    if all_within(64, counts) {
-        let all = total_of(counts);
-        if 256 < all {
-            return bad;
-        }
-        if cells.len() != all {
-            return bad;
-        }
-        if 65536 < turns.len() {
-            return bad;
-        }
-        return Check::Fine;
-    }
-    bad
+    Ok(())
 }
 
 // Whether one member's list rises, cell by cell, within the arena.
-fn rises(cells: &[u32], start: usize, count: usize, inside: u32) -> bool
-    requires { start + count ≤ length cells.now }
-    ensures { result ≡ rises_from inside 0 (take count (drop start cells.now)) }
+#[tactic(auto, using(crate::specs::Lists::rising))]
+fn rises(list: &[u32], inside: u32) -> bool
+    ensures { result ≡ rises_from inside 0 list.now }
 {
     let mut low: u32 = 0;
-    let mut i = 0;
-    while i < count {
-        let cell = cells[start + i];
-        if cell < low {
-            return false;
-        }
-        if inside <= cell {
+    for &cell in list {
+        if cell < low || inside <= cell {
             return false;
         }
         low = cell + 1;
-        i += 1;
     }
     true
 }
 
 // The first member whose list does not.
-fn lists_fault(inside: u32, counts: &[u32], cells: &[u32]) -> Check
+#[tactic(auto, using(laws::specs::Crew::start_fits, crate::specs::Starts::beginning, crate::specs::Lists::listing))]
+fn lists_fault(inside: u32, counts: &[u32], cells: &[u32]) -> Result<(), Refusal>
     requires { (length counts.now ≤ 16) × (length cells.now ≡ total counts.now) }
     ensures { result
         ≡ first (bad_lists (length counts.now) 0 inside counts.now cells.now) }
 {
     let mut start: usize = 0;
-    let mut m = 0;
-    while m < counts.len() {
-        let count = counts[m] as usize;
-        if rises(cells, start, count, inside) {
-            start += count;
-            m += 1;
-        } else {
-            return Check::Fault(Refusal::BadCrew(m));
+    for m in 0..counts.len() {
+        let end = start + counts[m] as usize;
+        if !rises(&cells[start..end], inside) {
+            return Err(Refusal::BadCrew(m));
         }
+        start = end;
     }
-    Check::Fine
+    Ok(())
 }
 
 // The first turn that names no member.
-fn first_stray(members: usize, turns: &[u32]) -> Check
+#[tactic(auto, using(crate::specs::Lists::straying))]
+fn first_stray(members: usize, turns: &[u32]) -> Result<(), Refusal>
     ensures { result ≡ first (bad_turns members 0 turns.now) }
 {
-    let mut i = 0;
-    while i < turns.len() {
+    for i in 0..turns.len() {
         if members <= turns[i] as usize {
-            return Check::Fault(Refusal::BadCrew(i));
+            return Err(Refusal::BadCrew(i));
         }
-        i += 1;
     }
-    Check::Fine
+    Ok(())
 }
 
 // The same, with the answer at once where all name one.
-fn turns_fault(members: usize, turns: &[u32]) -> Check
+#[tactic(auto, using(crate::specs::Lists::turns_within))]
+fn turns_fault(members: usize, turns: &[u32]) -> Result<(), Refusal>
     requires { (1 ≤ members) × (members ≤ 16) }
     ensures { result ≡ first (bad_turns members 0 turns.now) }
 {
     if all_within((members - 1) as u32, turns) {
-        return Check::Fine;
+        return Ok(());
     }
     first_stray(members, turns)
 }
 
 // Lists, and then turns.
-fn names_fault(inside: u32, counts: &[u32], cells: &[u32], turns: &[u32]) -> Check
+#[tactic(auto, using(laws::specs::Checks::fronts))]
+fn names_fault(inside: u32, counts: &[u32], cells: &[u32], turns: &[u32]) -> Result<(), Refusal>
     requires { (1 ≤ length counts.now)
         × ((length counts.now ≤ 16) × (length cells.now ≡ total counts.now)) }
     ensures { result
         ≡ first (bad_lists (length counts.now) 0 inside counts.now cells.now
         ++ bad_turns (length counts.now) 0 turns.now) }
 {
-    let lists = lists_fault(inside, counts, cells);
-    match lists {
-        Check::Fault(refusal) => Check::Fault(refusal),
-        Check::Fine => turns_fault(counts.len(), turns),
-    }
+    lists_fault(inside, counts, cells)?;
+    turns_fault(counts.len(), turns)
 }
 
 // 15: a limit, then a list, then a turn that keeps no rule; the first that applies.
-pub fn plan_fault(inside: u32, counts: &[u32], cells: &[u32], turns: &[u32]) -> Check
+#[tactic(auto, using(laws::specs::Checks::fronts, laws::specs::Crew::limits_fine))]
+pub fn plan_fault(inside: u32, counts: &[u32], cells: &[u32], turns: &[u32]) -> Result<(), Refusal>
     ensures { result
         ≡ first (bad_limits counts.now cells.now turns.now
         ∷ (bad_lists (length counts.now) 0 inside counts.now cells.now
         ++ bad_turns (length counts.now) 0 turns.now)) }
 {
-    let limits = limits_fault(counts, cells, turns);
-    match limits {
-        Check::Fault(refusal) => Check::Fault(refusal),
-        Check::Fine => names_fault(inside, counts, cells, turns),
-    }
+    limits_fault(counts, cells, turns)?;
+    names_fault(inside, counts, cells, turns)
 }
 
 // ---- the lists in the run of cells
 
 // Where each member's list begins in the run of cells.
+#[tactic(auto, using(crate::specs::Starts::beginning))]
 pub fn starts_of(counts: &[u32]) -> [usize; 16]
     requires { length counts.now ≤ 16 }
     ensures { Begun counts.now result }
 {
     let mut starts = [0usize; 16];
     let mut start: usize = 0;
-    let mut m = 0;
-    while m < counts.len() {
+    for m in 0..counts.len() {
         starts[m] = start;
         start += counts[m] as usize;
-        m += 1;
     }
     starts
 }

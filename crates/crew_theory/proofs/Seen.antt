@@ -1,5 +1,5 @@
 -- The two calls are runs in their work. Rounds as the replies tell them are rounds as the crew's state tells them, and the other way round.
-use Rattle.std.specs.Prelude.{ℕ, ◌+◌, ◌-◌, ◌≤◌, ◌<◌, ◌≡◌, refl, List, [], ◌∷◌, ◌++◌, false, not, ◌||◌, ltb, eqb, length, get_or}
+use Rattle.std.specs.Prelude.{ℕ, ◌+◌, ◌-◌, ◌≤◌, ◌<◌, ◌≡◌, refl, List, [], ◌∷◌, ◌++◌, false, not, ◌||◌, ltb, eqb, length, get_or, Ok}
 use Rattle.std.proofs.Common.{sym, ap, ◌∙◌, subst, append_assoc, append-nil, inl, inr, arith, length-append, le-ltb, leb-false, ltb-false}
 use Rattle.std.proofs.lemmas.Bool.{lt-leb}
 use Rattle.model.specs.Log.{Made}
@@ -7,7 +7,6 @@ use Rattle.model.specs.Arena.{within, cells_of}
 use Rattle.model.specs.Refusals.{first}
 use Rattle.model.specs.Checks.{bad_shape, bad_health}
 use Rattle.model.specs.Crew.{Work, rests, adds, adds_of, total, count_of, all_within, bad_limits, bad_lists, bad_turns, crew_rules, crew_at_work_rules, Crew, crew_start, shift_of, crew_of, crew_at_work_of}
-use Rattle.types.specs.declared.Check.TheVariants.{Fine}
 use Rattle.types.specs.declared.CrewReply.{CrewReply}
 use Rattle.types.specs.declared.Head.{Head}
 use Rattle.choice.specs.Pick.{neither}
@@ -19,13 +18,13 @@ use Rattle.crew_theory.proofs.Ended.{released_at}
 
 -- ---- the premises with other turns
 
-turns_fine : (members i : ℕ) (turns : List ℕ) → ((n : ℕ) → In n turns → n < members) → first (bad_turns members i turns) ≡ Fine
+turns_fine : (members i : ℕ) (turns : List ℕ) → ((n : ℕ) → In n turns → n < members) → first (bad_turns members i turns) ≡ Ok tt
 unfolding first bad_turns
 turns_fine members i [] f = refl
 turns_fine members i (n ∷ ns) f = rw (lt-leb members n (f n (inl refl))) (turns_fine members (i + 1) ns (λ m j. f m (inr j)))
 
-fine_turns : (h : Head) (t g counts cells before turns : List ℕ) → first (crew_rules h t g counts cells before) ≡ Fine → ((n : ℕ) → In n turns → n < length counts) → length turns ≤ 65536
-    → first (crew_rules h t g counts cells turns) ≡ Fine
+fine_turns : (h : Head) (t g counts cells before turns : List ℕ) → first (crew_rules h t g counts cells before) ≡ Ok tt → ((n : ℕ) → In n turns → n < length counts) → length turns ≤ 65536
+    → first (crew_rules h t g counts cells turns) ≡ Ok tt
 unfolding crew_rules
 fine_turns h t g counts cells before turns e f l =
     let a = fine_rest _ _ e in
@@ -46,15 +45,15 @@ open_turns h t g counts cells turns o f l =
 -- ---- the first of some turns
 
 -- a turn that was not refused names a member
-turns_name : (members i : ℕ) (turns : List ℕ) → first (bad_turns members i turns) ≡ Fine → (n : ℕ) → In n turns → n < members
+turns_name : (members i : ℕ) (turns : List ℕ) → first (bad_turns members i turns) ≡ Ok tt → (n : ℕ) → In n turns → n < members
 unfolding bad_turns
 turns_name members i [] e n k = absurd k
 turns_name members i (m ∷ ms) e n k =
     let a = fine_rest _ _ e in
     elim k [ inl z ↦ omega (arith, leb-false members m a.0) | inr z ↦ turns_name members (i + 1) ms a.1 n z ]
 
-fine_front : (h : Head) (t g counts cells before later : List ℕ) → first (crew_rules h t g counts cells (before ++ later)) ≡ Fine
-    → first (crew_rules h t g counts cells before) ≡ Fine
+fine_front : (h : Head) (t g counts cells before later : List ℕ) → first (crew_rules h t g counts cells (before ++ later)) ≡ Ok tt
+    → first (crew_rules h t g counts cells before) ≡ Ok tt
 unfolding crew_rules
 fine_front h t g counts cells before later e =
     let a = fine_rest _ _ e in
@@ -68,12 +67,12 @@ fine_front h t g counts cells before later e =
 
 -- ---- the two calls are runs in their work
 
-pub crew_is : (h : Head) (t g counts cells turns : List ℕ) → first (crew_rules h t g counts cells turns) ≡ Fine
+pub crew_is : (h : Head) (t g counts cells turns : List ℕ) → first (crew_rules h t g counts cells turns) ≡ Ok tt
     → crew_of h t g counts cells turns ≡ tabled (shift_of rests h t g counts cells turns [])
 unfolding crew_of
 crew_is h t g counts cells turns fine = rw (fine, append-nil (shift_of rests h t g counts cells turns []).log)
 
-pub crew_at_work_is : (h : Head) (t g counts cells turns counters : List ℕ) → first (crew_at_work_rules h t g counts cells turns counters) ≡ Fine
+pub crew_at_work_is : (h : Head) (t g counts cells turns counters : List ℕ) → first (crew_at_work_rules h t g counts cells turns counters) ≡ Ok tt
     → crew_at_work_of h t g counts cells turns counters ≡ shift_of adds h t g counts cells turns counters
 unfolding crew_at_work_of
 crew_at_work_is h t g counts cells turns counters fine = rw fine
@@ -87,9 +86,9 @@ rounds_same reply other counts turns same before (r ∷ rs) e x = (
   rounds_same reply other counts turns same (before ++ r) rs (e ∙ sym (append_assoc before r (flat rs))) x.1,
 )
 
-module _ (h : Head) (t g counts cells turns : List ℕ) (fine : first (crew_rules h t g counts cells turns) ≡ Fine) where
-  prefix_fine : (before later : List ℕ) → turns ≡ before ++ later → first (crew_rules h t g counts cells before) ≡ Fine
-  prefix_fine before later e = fine_front h t g counts cells before later (subst (λ (ts : List ℕ). first (crew_rules h t g counts cells ts) ≡ Fine) e fine)
+module _ (h : Head) (t g counts cells turns : List ℕ) (fine : first (crew_rules h t g counts cells turns) ≡ Ok tt) where
+  prefix_fine : (before later : List ℕ) → turns ≡ before ++ later → first (crew_rules h t g counts cells before) ≡ Ok tt
+  prefix_fine before later e = fine_front h t g counts cells before later (subst (λ (ts : List ℕ). first (crew_rules h t g counts cells ts) ≡ Ok tt) e fine)
 
   -- what the crew replies to the first turns
   crew_replies : (before later : List ℕ) → turns ≡ before ++ later
@@ -102,7 +101,7 @@ module _ (h : Head) (t g counts cells turns : List ℕ) (fine : first (crew_rule
       ap (λ (o : Made (CrewReply × (List ℕ × List ℕ))). o.seen.0)
       (crew_at_work_is h t g counts cells before counters (at_work_fine h t g counts cells before counters wide (prefix_fine before later e)))
 
-module _ (h : Head) (t g counts cells : List ℕ) (rounds : List (List ℕ)) (fine : first (crew_rules h t g counts cells (flat rounds)) ≡ Fine) where
+module _ (h : Head) (t g counts cells : List ℕ) (rounds : List (List ℕ)) (fine : first (crew_rules h t g counts cells (flat rounds)) ≡ Ok tt) where
   -- so rounds by one are rounds by the other
   pub crew_rounds : RoundsAfter crew_of h t g counts cells [] rounds → RoundsOver rests h t g counts cells [] [] rounds
   crew_rounds = rounds_same _ _ counts (flat rounds) (crew_replies h t g counts cells (flat rounds) fine) [] rounds refl

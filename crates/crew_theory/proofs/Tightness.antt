@@ -1,7 +1,7 @@
 -- Demand 3's bound is tight for every K from 1 to 256, and more: every crew that meets the premises and whose members all begin with the
 -- same cell has 2K - 1 rounds, or 3K - 1 at work, after which it has not finished.
 -- ---- a crew whose members all begin with the same cell
-use Rattle.std.specs.Prelude.{ℕ, zero, suc, ◌+◌, ◌*◌, ◌-◌, ◌/◌, min, ◌≤◌, ◌<◌, ◌≡◌, refl, true, false, length, take, drop, replicate}
+use Rattle.std.specs.Prelude.{ℕ, zero, suc, ◌+◌, ◌*◌, ◌-◌, ◌/◌, min, ◌≤◌, ◌<◌, ◌≡◌, refl, true, false, length, take, drop, replicate, Ok}
 use Rattle.std.proofs.Common.{sym, ap, ◌∙◌, subst, inl, length-append, take_at}
 use mathlib.Core.List.{List, [], ◌∷◌, ◌++◌}
 use native.Mathlib.Omega.{arith}
@@ -12,7 +12,6 @@ use Rattle.model.specs.Log.{Made}
 use Rattle.model.specs.Arena.{head_of, bit_at, owner_at, waiters_at, is_free, state_of, state_at, head_fits, shape_fits, health_fits}
 use Rattle.model.specs.Refusals.{first}
 use Rattle.model.specs.Crew.{Work, rests, adds, moves_of, total, start_of, count_of, list_of, all_within, rises_from, bad_limits, bad_lists, bad_turns, crew_rules, crew_start, turns_of, shift_of, crew_of, crew_at_work_of}
-use Rattle.types.specs.declared.Check.TheVariants.{Fine}
 use Rattle.types.specs.declared.CrewReply.{CrewReply}
 use Rattle.types.specs.declared.Head.{Head}
 use Rattle.laws.specs.Lists.{zeros}
@@ -60,8 +59,8 @@ tight_over work h t g counts cells counters c o begins some =
 
 -- the same by other replies that say the same
 short_same : (moves : ℕ) (h : Head) (t g counts cells : List ℕ) (reply other : List ℕ → CrewReply)
-    → ((turns : List ℕ) → first (crew_rules h t g counts cells turns) ≡ Fine → reply turns ≡ other turns)
-    → ((rounds : List (List ℕ)) → first (crew_rules h t g counts cells (flat rounds)) ≡ Fine → RoundsSaid reply counts [] rounds → RoundsSaid other counts [] rounds)
+    → ((turns : List ℕ) → first (crew_rules h t g counts cells turns) ≡ Ok tt → reply turns ≡ other turns)
+    → ((rounds : List (List ℕ)) → first (crew_rules h t g counts cells (flat rounds)) ≡ Ok tt → RoundsSaid reply counts [] rounds → RoundsSaid other counts [] rounds)
     → ShortOf moves h t g counts cells reply → ShortOf moves h t g counts cells other
 short_same moves h t g counts cells reply other same rounds_too x =
     let e = same (flat x.rounds) x.opens.fine in
@@ -119,7 +118,7 @@ runs_are (n ∷ ns) (suc m) =
     = ap (λ (i : ℕ). drop (i + start_of ns m) (rising 0 n ++ runs ns)) (sym (rising_long 0 n)) ∙ drop-append-add (rising 0 n) (runs ns) (start_of ns m) in
     ap (take (count_of ns m)) e ∙ runs_are ns m
 
-lists_fine : (inside : ℕ) (counts : List ℕ) → ((m : ℕ) → count_of counts m ≤ inside) → (left m : ℕ) → first (bad_lists left m inside counts (runs counts)) ≡ Fine
+lists_fine : (inside : ℕ) (counts : List ℕ) → ((m : ℕ) → count_of counts m ≤ inside) → (left m : ℕ) → first (bad_lists left m inside counts (runs counts)) ≡ Ok tt
 unfolding first bad_lists
 lists_fine inside counts f zero m = refl
 lists_fine inside counts f (suc left) m = rw (runs_are counts m, rising_rises inside 0 (count_of counts m) (omega (arith, f m))) (lists_fine inside counts f left (m + 1))
@@ -141,7 +140,7 @@ module _ (a b c d : ℕ) (a64 : a ≤ 64) (b64 : b ≤ 64) (c64 : c ≤ 64) (d64
       let e : total crew ≡ a + b + c + d = unfold total in omega arith in
       rw (le-leb a 64 a64, le-leb b 64 b64, le-leb c 64 c64, le-leb d 64 d64, le-ltb 256 (total crew) (omega arith), eq-eqb (length (runs crew)) (total crew) (runs_long crew))
 
-  fine : first (crew_rules bench table health crew (runs crew) []) ≡ Fine
+  fine : first (crew_rules bench table health crew (runs crew) []) ≡ Ok tt
   unfolding crew_rules shape_fits head_fits health_fits first bad_turns
   fine =
       first_skip (bad_limits crew (runs crew) []) (bad_lists 4 0 64 crew (runs crew) ++ []) limits_fine

@@ -1,10 +1,9 @@
 -- The bench's crew: two members that want the same two cells. Its premises are met, and 2K - 1 rounds are not enough for it.
-use Rattle.std.specs.Prelude.{ℕ, zero, suc, ◌+◌, ◌*◌, ◌/◌, ◌≡◌, refl, List, [], ◌∷◌, ◌++◌, get_or, replicate}
+use Rattle.std.specs.Prelude.{ℕ, zero, suc, ◌+◌, ◌*◌, ◌/◌, ◌≡◌, refl, List, [], ◌∷◌, ◌++◌, get_or, replicate, Ok}
 use Rattle.std.proofs.Common.{inl, inr, arith}
 use Rattle.model.specs.Arena.{head_of, bit_at, owner_at, waiters_at, is_free, state_of, state_at, head_fits, shape_fits, health_fits}
 use Rattle.model.specs.Refusals.{first}
 use Rattle.model.specs.Crew.{total, start_of, all_within, rises_from, bad_lists, bad_turns, crew_rules, crew_of, crew_at_work_of}
-use Rattle.types.specs.declared.Check.TheVariants.{Fine}
 use Rattle.types.specs.declared.CrewReply.{CrewReply}
 use Rattle.types.specs.declared.Head.{Head}
 use Rattle.laws.specs.Lists.{zeros}
@@ -26,7 +25,7 @@ abbrev cells : List ℕ
 cells = 2 ∷ 5 ∷ 2 ∷ 5 ∷ []
 
 -- a prepared arena is open to them
-pub opened : (turns : List ℕ) → first (crew_rules bench table health counts cells turns) ≡ Fine → Open bench table health counts cells turns
+pub opened : (turns : List ℕ) → first (crew_rules bench table health counts cells turns) ≡ Ok tt → Open bench table health counts cells turns
 unfolding state_at state_of is_free bit_at owner_at waiters_at total
 opened turns fine =
     record {

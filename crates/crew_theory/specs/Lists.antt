@@ -1,12 +1,11 @@
 -- What the crew's checks give: members are few, and each list lies in the run of cells, in range and strictly rising.
-use Rattle.std.specs.Prelude.{ℕ, zero, suc, ◌+◌, ◌≤◌, ◌<◌, ◌≡◌, List, [], ◌∷◌, ◌++◌, true, ◌&&◌, leb, length, get_or}
+use Rattle.std.specs.Prelude.{ℕ, zero, suc, ◌+◌, ◌≤◌, ◌<◌, ◌≡◌, List, [], ◌∷◌, ◌++◌, true, ◌&&◌, leb, length, get_or, Ok}
 use Rattle.std.proofs.Common.{arith, leb-true}
 use Rattle.std.proofs.Math.Dec.{ltb}
 use Rattle.std.proofs.lemmas.Bool.{not-false}
 use Rattle.model.specs.Arena.{cells_of}
 use Rattle.model.specs.Refusals.{first}
 use Rattle.model.specs.Crew.{total, start_of, count_of, list_of, rises_from, bad_limits, bad_lists, bad_turns, crew_rules}
-use Rattle.types.specs.declared.Check.TheVariants.{Fine}
 use Rattle.types.specs.declared.Head.{Head}
 use Rattle.choice.specs.Pick.{both}
 use Rattle.laws.specs.Shape.{Shaped, shaped}
@@ -43,7 +42,7 @@ pub record Fits (h : Head) (words : ℕ) (counts cells : List ℕ) : Type 0 wher
   pub range : (m j : ℕ) → j < count_of counts m → get_or cells (start_of counts m + j) 0 < cells_of h
   pub rising : (m i j : ℕ) → i < j → j < count_of counts m → get_or cells (start_of counts m + i) 0 < get_or cells (start_of counts m + j) 0
 
-pub fits : (h : Head) (t g counts cells turns : List ℕ) → first (crew_rules h t g counts cells turns) ≡ Fine → Fits h (length t) counts cells
+pub fits : (h : Head) (t g counts cells turns : List ℕ) → first (crew_rules h t g counts cells turns) ≡ Ok tt → Fits h (length t) counts cells
 unfolding crew_rules
 fits h t g counts cells turns e =
     let a = fine_rest _ _ e in

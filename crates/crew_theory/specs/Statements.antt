@@ -1,13 +1,12 @@
 -- What demand 3 says, as statements over the crew's run: of document 01's, and of document 02's, at work. Both are runs of turns, `shift_of`,
 -- in a work; a statement whose name ends in `over` is of `shift_of` in any work, and the proofs, in the other files, are of that. `Theorems`
 -- gives all by name.
-use Rattle.std.specs.Prelude.{ℕ, zero, suc, ◌+◌, ◌*◌, ◌-◌, ◌/◌, ◌≤◌, ◌<◌, ◌≡◌, List, [], ◌∷◌, ◌++◌, ◌⊎◌, eqb, length, get_or, set, take, if◌then◌else◌}
+use Rattle.std.specs.Prelude.{ℕ, zero, suc, ◌+◌, ◌*◌, ◌-◌, ◌/◌, ◌≤◌, ◌<◌, ◌≡◌, List, [], ◌∷◌, ◌++◌, ◌⊎◌, eqb, length, get_or, set, take, if◌then◌else◌, Ok}
 use Rattle.model.specs.Log.{Made, Event, by_caller, attempt_begun, boundary_run, yielded, spun, step_dropped, took, released, waiters_set, health_set, held_all_lem, added}
 use Rattle.model.specs.Arena.{last_serial, cells_of, spent_to, waiters_at, set_cell, state_at}
 use Rattle.model.specs.Refusals.{first}
 use Rattle.model.specs.Crew.{Work, rests, adds, adds_of, moves_of, total, start_of, count_of, list_of, crew_rules, crew_at_work_rules, Crew, crew_at, crew_start, moved, is_full, noted_at, added_to, turn_of, turns_of, shift_of, crew_of, crew_at_work_of}
 use Rattle.types.specs.declared.Answer.TheVariants.{Done}
-use Rattle.types.specs.declared.Check.TheVariants.{Fine}
 use Rattle.types.specs.declared.CrewReply.{CrewReply}
 use Rattle.types.specs.declared.Head.{Head}
 use Rattle.types.specs.declared.State.TheVariants as state
@@ -71,7 +70,7 @@ named cells k = get_or cells k 0
 
 pub record Open (h : Head) (t g counts cells turns : List ℕ) : Type 0 where
   -- the call is not refused: the arena's shape, the crew's limits, strictly rising lists in range, turns that name members
-  pub fine : first (crew_rules h t g counts cells turns) ≡ Fine
+  pub fine : first (crew_rules h t g counts cells turns) ≡ Ok tt
   pub free : (k : ℕ) → k < total counts → state_at h.next t (named cells k) ≡ state.Free
   pub unwaited : (k : ℕ) → k < total counts → waiters_at t (named cells k) ≡ 0
   pub healthy : (k : ℕ) → k < total counts → get_or g (named cells k / h.buckets) 0 ≡ 0
@@ -377,15 +376,15 @@ pub record Told (work : Work) (h : Head) (t g counts cells turns counters : List
 
 abbrev pub TellsOver : Work → Type 0
 TellsOver work =
-    (h : Head) (t g counts cells turns counters : List ℕ) → first (crew_rules h t g counts cells turns) ≡ Fine
+    (h : Head) (t g counts cells turns counters : List ℕ) → first (crew_rules h t g counts cells turns) ≡ Ok tt
     → Told work h t g counts cells turns counters (tabled (shift_of work h t g counts cells turns counters))
 
 abbrev pub Tells : CrewBuild → Type 0
-Tells f = (h : Head) (t g counts cells turns : List ℕ) → first (crew_rules h t g counts cells turns) ≡ Fine → Told rests h t g counts cells turns [] (f h t g counts cells turns)
+Tells f = (h : Head) (t g counts cells turns : List ℕ) → first (crew_rules h t g counts cells turns) ≡ Ok tt → Told rests h t g counts cells turns [] (f h t g counts cells turns)
 
 abbrev pub TellsAtWork : CrewAtWorkBuild → Type 0
 TellsAtWork f =
-    (h : Head) (t g counts cells turns counters : List ℕ) → first (crew_at_work_rules h t g counts cells turns counters) ≡ Fine
+    (h : Head) (t g counts cells turns counters : List ℕ) → first (crew_at_work_rules h t g counts cells turns counters) ≡ Ok tt
     → Told adds h t g counts cells turns counters (tabled (f h t g counts cells turns counters))
 
 -- ---- "all have held their whole lists": there is a moment at which the table shows every cell of a member's list held by the serial noted for

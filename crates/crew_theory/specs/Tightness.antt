@@ -12,7 +12,6 @@ use Rattle.model.specs.Log.{Made}
 use Rattle.model.specs.Arena.{head_of, bit_at, owner_at, waiters_at, is_free, state_of, state_at, head_fits, shape_fits, health_fits}
 use Rattle.model.specs.Refusals.{first}
 use Rattle.model.specs.Crew.{Work, rests, adds, moves_of, total, start_of, count_of, list_of, all_within, rises_from, bad_limits, bad_lists, bad_turns, crew_rules, crew_start, turns_of, shift_of, crew_of, crew_at_work_of}
-use Rattle.types.specs.declared.Check.TheVariants.{Fine}
 use Rattle.types.specs.declared.CrewReply.{CrewReply}
 use Rattle.types.specs.declared.Head.{Head}
 use Rattle.laws.specs.Lists.{zeros}

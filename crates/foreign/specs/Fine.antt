@@ -1,11 +1,10 @@
 -- What a call with a script knows once its checks are fine.
-use Rattle.std.specs.Prelude.{ℕ, ◌-◌, ◌/◌, ◌%◌, ◌≤◌, ◌≡◌, refl, List, [], ◌∷◌, not, ◌||◌, ltb, eqb, length}
+use Rattle.std.specs.Prelude.{ℕ, ◌-◌, ◌/◌, ◌%◌, ◌≤◌, ◌≡◌, refl, List, [], ◌∷◌, not, ◌||◌, ltb, eqb, length, Ok}
 use Rattle.std.proofs.Common.{ap, ◌∙◌, append-nil, arith, ltb-false}
 use Rattle.model.specs.Arena.{cells_of, holds_of}
 use Rattle.model.specs.Refusals.{Rule, first}
 use Rattle.model.specs.Checks.{bad_shape, bad_health, bad_script, script_rules}
 use Rattle.model.specs.Foreign.{steps_in, flow_of, setting, run_steps_of, boundary_of}
-use Rattle.types.specs.declared.Check.TheVariants.{Fine}
 use Rattle.model.specs.Calls.{given}
 use Rattle.types.specs.declared.Flow.{Flow}
 use Rattle.types.specs.declared.Head.{Head}
@@ -24,7 +23,7 @@ pub record ScriptFine (h : Head) (words bytes script place : ℕ) : Type 0 where
   pub few_steps : script / 3 ≤ 32768
 
 -- the rule on the script, in whatever company
-pub place_fine : (script : List ℕ) (place : ℕ) → first (bad_script script place ∷ []) ≡ Fine → (place ≤ steps_in script) × (steps_in script ≤ 32768)
+pub place_fine : (script : List ℕ) (place : ℕ) → first (bad_script script place ∷ []) ≡ Ok tt → (place ≤ steps_in script) × (steps_in script ≤ 32768)
 place_fine script place e =
     let a = neither (not (eqb (length script % 3) 0) || ltb 32768 (steps_in script)) (ltb (steps_in script) place) (fine_rest _ _ e).0 in
     let b = neither (not (eqb (length script % 3) 0)) (ltb 32768 (steps_in script)) a.0 in
@@ -34,7 +33,7 @@ place_fine script place e =
 pub script_then : (h : Head) (t g : List ℕ) (ys : List Rule) → first (bad_shape h t ∷ bad_health h g ∷ ys) ≡ or_else (first (bad_shape h t ∷ bad_health h g ∷ [])) (first ys)
 script_then h t g ys = first_append (bad_shape h t ∷ bad_health h g ∷ []) ys
 
-pub script_fine : (h : Head) (t g script : List ℕ) (place : ℕ) (held : List ℕ) → first (script_rules h t g script place held) ≡ Fine
+pub script_fine : (h : Head) (t g script : List ℕ) (place : ℕ) (held : List ℕ) → first (script_rules h t g script place held) ≡ Ok tt
     → ScriptFine h (length t) (length g) (length script) place
 unfolding script_rules
 script_fine h t g script place held e =

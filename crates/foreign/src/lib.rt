@@ -4,6 +4,8 @@
 // caller proves their `requires`.
 #![tactic(auto)]
 
+mod guard;
+
 ghost use Rattle.std.specs.Prelude.{◌≡◌, true, [], ◌∷◌, ◌++◌, ◌+◌, ◌*◌, ◌-◌, ◌/◌, ◌<◌, ◌≤◌, length, replicate};
 ghost use Rattle.model.specs.Arena.{shape_fits, is_in, cells_of, head_of, holds_of};
 ghost use Rattle.model.specs.Refusals.{first};
@@ -11,15 +13,18 @@ ghost use Rattle.model.specs.Checks.{bad_script, bad_held, script_rules};
 ghost use Rattle.model.specs.Foreign.{setting, protecting, flow_of, step_take_of, step_release_of};
 ghost use Rattle.model.specs.Foreign.{step_waiters_of, step_health_of, step_of, run_steps_of, boundary_of};
 ghost use Rattle.model.specs.Calls.{script_reply, given, refused_at_once, environment_of};
-ghost use Rattle.foreign.specs.Model.{pairs_of, guards_of, Room, RoomIn, scope_of, setting_of, run_once_of};
+ghost use Rattle.foreign.specs.Model.{guards_of, Room, RoomIn, scope_of, setting_of, run_once_of};
 ghost use Rattle.foreign.specs.Laws.{FlowBound};
 ghost use Rattle.foreign.specs.Marks.{Marked, filling_of, noting_of};
 ghost use Rattle.foreign.specs.Fine.{ScriptFine};
 
-use types::{Answer, Check, Counts, Flow, Head, Hold, Refusal, Run, ScriptReply, Stepped};
+use guard::{Guard, Holding, Nobody, filling, note_marks};
+use types::{Answer, Counts, Flow, Head, Hold, Refusal, Run, ScriptReply, Stepped};
 
 // What the parts of a call are given and never change: the arena's sizes, its boot number, its number of cells, and the
 // number of steps of the script.
+// (d) Table, health and script go beside it: they are lent from C one by one, and a struct that lends them on would be
+// read through at each word.
 #[derive(Clone, Copy)]
 pub struct Scope {
     pub headers: u32,
@@ -43,6 +48,16 @@ impl Scope {
     }
 }
 
+// What a call protects: the held list, and the first n of the pairs that it has taken.
+// (a) Document 01 has "the array of sixty-four pairs" with a count, and memory is fixed.
+#[derive(Clone, Copy)]
+pub struct Holds<'a> {
+    pub held: &'a [u32],
+    pub taken: &'a [[u32; 2]; 64],
+    pub n: usize,
+    ghost few: { n ≤ 64 },
+}
+
 // The scope of a call.
 pub fn scope_of(head: Head, script: &[u32]) -> Scope
     requires { cells_of head ≤ 4096 }
@@ -59,90 +74,8 @@ pub fn scope_of(head: Head, script: &[u32]) -> Scope
 
 // ---- one step
 
-// Whether a lease is among the first n pairs.
-fn is_in_pairs(taken: &[[u32; 2]; 64], n: usize, hold: Hold) -> bool
-    requires { n ≤ 64 }
-    ensures { result ≡ is_in hold (pairs_of n 0 taken.now) }
-{
-    let mut i = 0;
-    while i < n {
-        if lease::same_hold(taken[i][0], taken[i][1], hold) {
-            return true;
-        }
-        i += 1;
-    }
-    false
-}
-
-// Of a list of n leases: what all marks are before any is noted, and how many are noted.
-fn filling(n: usize) -> u8
-    ensures { result ≡ filling_of n }
-{
-    if 255 < n {
-        return 1;
-    }
-    0
-}
-
-fn noting(n: usize) -> usize
-    ensures { result ≡ noting_of n }
-{
-    if 255 < n {
-        return 0;
-    }
-    n
-}
-
-// Notes marks, where none is yet. For each remainder of a cell number by 256: 0 where no listed lease has it, else one
-// more than the position of the first that has. Noted from the end, so that the first stays; a list past a byte's
-// numbers is marked as a whole.
-fn note_marks(held: &[u32], marks: &mut [u8; 256])
-    requires { marks.old ≡ replicate 256 (filling_of (length held.now / 3)) }
-    ensures { Marked marks.new held.now }
-{
-    let mut i = noting(held.len() / 3);
-    while 0 < i {
-        i -= 1;
-        let at = (held[3 * i] % 256) as usize;
-        marks[at] = (i + 1) as u8;
-    }
-}
-
-// Whether a lease is held: without a mark it is not, and no lease is looked at; else up to the first match.
-fn is_listed(held: &[u32], marks: &[u8; 256], hold: Hold) -> bool
-    requires { Marked marks.now held.now }
-    ensures { result ≡ is_in hold (holds_of held.now) }
-{
-    let at = (hold.cell % 256) as usize;
-    let mark = marks[at];
-    if mark == 0 {
-        return false;
-    }
-    lease::is_in_from(held, (mark - 1) as usize, hold)
-}
-
-// Whether a lease is protected: held, taken by this call, or the call's own new one.
-fn is_guarded(
-    held: &[u32],
-    marks: &[u8; 256],
-    taken: &[[u32; 2]; 64],
-    n: usize,
-    own: Hold,
-    hold: Hold,
-) -> bool
-    requires { (n ≤ 64) × Marked marks.now held.now }
-    ensures { result ≡ is_in hold (guards_of held.now taken.now n ++ (own ∷ [])) }
-{
-    if is_listed(held, marks, hold) {
-        return true;
-    }
-    if is_in_pairs(taken, n, hold) {
-        return true;
-    }
-    lease::same_hold(own.cell, own.serial, hold)
-}
-
 // 1: take a cell, if it is in range and free and a serial remains.
+#[tactic(auto, unfolding(model::specs::Foreign::step_take_of))]
 fn step_take(cells: u32, next: u32, table: &mut [u32], cell: u32) -> Stepped
     requires { 3 * cells ≤ length table.old }
     ensures { (result, table.new) ≡ (step_take_of cells next table.old cell).seen }
@@ -164,24 +97,20 @@ fn step_take(cells: u32, next: u32, table: &mut [u32], cell: u32) -> Stepped
 }
 
 // 2: release a lease, if it is live and not protected. A step names cell and serial: it has no boot number to test.
-fn step_release(
+#[tactic(auto, unfolding(model::specs::Foreign::step_release_of))]
+fn step_release<G: Guard>(
     cells: u32,
     next: u32,
     table: &mut [u32],
     hold: Hold,
-    held: &[u32],
-    marks: &[u8; 256],
-    taken: &[[u32; 2]; 64],
-    n: usize,
-    own: Hold,
+    guard: &G,
 ) -> Stepped
-    requires { (3 * cells ≤ length table.old) × ((n ≤ 64) × Marked marks.now held.now) }
+    requires { 3 * cells ≤ length table.old }
     ensures { (result, table.new)
-        ≡ (step_release_of cells (guards_of held.now taken.now n ++ (own ∷ []))
-        next table.old hold.cell hold.serial).seen }
+        ≡ (step_release_of cells (G.protected guard.now) next table.old hold.cell hold.serial).seen }
 {
     if arena::is_live(next, cells, table, hold.cell, hold.serial) {
-        if is_guarded(held, marks, taken, n, own, hold) {
+        if guard.guards(hold) {
             return Stepped { next, dropped: 1 };
         }
         arena::release(table, hold.cell);
@@ -191,6 +120,7 @@ fn step_release(
 }
 
 // 3: set a cell's waiters.
+#[tactic(auto, unfolding(model::specs::Foreign::step_waiters_of))]
 fn step_waiters(cells: u32, next: u32, table: &mut [u32], cell: u32, number: u32) -> Stepped
     requires { 3 * cells ≤ length table.old }
     ensures { (result, table.new) ≡ (step_waiters_of cells next table.old cell number).seen }
@@ -203,6 +133,7 @@ fn step_waiters(cells: u32, next: u32, table: &mut [u32], cell: u32, number: u32
 }
 
 // 4: set a header's health to 0 or 1.
+#[tactic(auto, unfolding(model::specs::Foreign::step_health_of))]
 fn step_health(headers: u32, next: u32, health: &mut [u8], header: u32, number: u32) -> Stepped
     requires { headers ≤ length health.old }
     ensures { (result, health.new) ≡ (step_health_of headers next health.old header number).seen }
@@ -218,420 +149,219 @@ fn step_health(headers: u32, next: u32, health: &mut [u8], header: u32, number: 
     Stepped { next, dropped: 1 }
 }
 
-// One step that neither ends the boundary nor releases a lease.
-fn other_step(
-    headers: u32,
-    cells: u32,
-    next: u32,
-    table: &mut [u32],
-    health: &mut [u8],
-    kind: u32,
-    place: u32,
-    number: u32,
-) -> Stepped
-    requires { (3 * cells ≤ length table.old) × ((headers ≤ length health.old)
-        × ((kind ≡ 2 → ⊥) × (kind ≡ 5 → ⊥))) }
-    ensures { (result, (table.new, health.new))
-        ≡ (step_of (setting headers cells [] []) next table.old health.old kind place number
-        ).seen }
-{
-    if 2 < kind {
-        return late_step(headers, cells, next, table, health, kind, place, number);
-    }
-    if kind == 1 {
-        return step_take(cells, next, table, place);
-    }
-    Stepped { next, dropped: 0 }
-}
-
-// The same, of kind 3 or above.
-fn late_step(
-    headers: u32,
-    cells: u32,
-    next: u32,
-    table: &mut [u32],
-    health: &mut [u8],
-    kind: u32,
-    place: u32,
-    number: u32,
-) -> Stepped
-    requires { (3 * cells ≤ length table.old) × ((headers ≤ length health.old)
-        × ((2 < kind) × (kind ≡ 5 → ⊥))) }
-    ensures { (result, (table.new, health.new))
-        ≡ (step_of (setting headers cells [] []) next table.old health.old kind place number
-        ).seen }
-{
-    if kind == 3 {
-        return step_waiters(cells, next, table, place, number);
-    }
-    if kind == 4 {
-        return step_health(headers, next, health, place, number);
-    }
-    Stepped { next, dropped: 1 }
-}
-
 // One step that does not end the boundary.
-fn step(
-    headers: u32,
-    cells: u32,
+// (a) Kinds stay numbers: they are words of the script that C lends, and `step_of` of `model` has them so.
+#[tactic(auto, unfolding(model::specs::Foreign::step_of))]
+fn step<G: Guard>(
+    scope: Scope,
     next: u32,
     table: &mut [u32],
     health: &mut [u8],
     kind: u32,
     place: u32,
     number: u32,
-    held: &[u32],
-    marks: &[u8; 256],
-    taken: &[[u32; 2]; 64],
-    n: usize,
-    own: Hold,
+    guard: &G,
 ) -> Stepped
-    requires { (3 * cells ≤ length table.old) × ((headers ≤ length health.old)
-        × ((n ≤ 64) × ((kind ≡ 5 → ⊥) × Marked marks.now held.now))) }
+    requires { (3 * scope.cells ≤ length table.old) × ((scope.headers ≤ length health.old) × (kind ≡ 5 → ⊥)) }
     ensures { (result, (table.new, health.new))
-        ≡ (step_of (setting headers cells [] (guards_of held.now taken.now n ++ (own ∷ [])))
+        ≡ (step_of (setting scope.headers scope.cells [] (G.protected guard.now))
         next table.old health.old kind place number).seen }
 {
-    if kind == 2 {
-        let hold = Hold {
-            cell: place,
-            serial: number,
-        };
-        return step_release(cells, next, table, hold, held, marks, taken, n, own);
+    match kind {
+        0 => Stepped { next, dropped: 0 },
+        1 => step_take(scope.cells, next, table, place),
+        2 => {
+            let hold = Hold {
+                cell: place,
+                serial: number,
+            };
+            step_release(scope.cells, next, table, hold, guard)
+        }
+        3 => step_waiters(scope.cells, next, table, place, number),
+        4 => step_health(scope.headers, next, health, place, number),
+        _ => Stepped { next, dropped: 1 },
     }
-    other_step(headers, cells, next, table, health, kind, place, number)
-}
-
-// 2, where nothing is protected.
-fn free_release(cells: u32, next: u32, table: &mut [u32], cell: u32, serial: u32) -> Stepped
-    requires { 3 * cells ≤ length table.old }
-    ensures { (result, table.new) ≡ (step_release_of cells [] next table.old cell serial).seen }
-{
-    if arena::is_live(next, cells, table, cell, serial) {
-        arena::release(table, cell);
-        return Stepped { next, dropped: 0 };
-    }
-    Stepped { next, dropped: 1 }
-}
-
-// One step that does not end the boundary, where nothing is protected.
-fn free_step(
-    headers: u32,
-    cells: u32,
-    next: u32,
-    table: &mut [u32],
-    health: &mut [u8],
-    kind: u32,
-    place: u32,
-    number: u32,
-) -> Stepped
-    requires { (3 * cells ≤ length table.old) × ((headers ≤ length health.old) × (kind ≡ 5 → ⊥)) }
-    ensures { (result, (table.new, health.new))
-        ≡ (step_of (setting headers cells [] []) next table.old health.old kind place number
-        ).seen }
-{
-    if kind == 2 {
-        return free_release(cells, next, table, place, number);
-    }
-    other_step(headers, cells, next, table, health, kind, place, number)
 }
 
 // ---- a boundary
 
-// The steps from a place on, up to and including the next 5, or to the script's end, where nothing is protected: no
-// list is looked at, and none is marked.
-fn run_free(
-    headers: u32,
-    cells: u32,
-    start: u32,
-    place: usize,
+// The steps from a place on, up to and including the next 5, or to the script's end.
+// (a) Kinds stay numbers here and in `run_guarded`, as at `step`: words of the script that C lends.
+fn run<G: Guard>(
+    scope: Scope,
+    flow: Flow,
     table: &mut [u32],
     health: &mut [u8],
     script: &[u32],
-    steps: usize,
+    guard: &G,
 ) -> Flow
-    requires { Room headers cells (length table.old) (length health.old) 0 steps (length script.now)
-        × FlowBound steps (flow_of start place 0) }
+    requires { RoomIn scope (length table.old) (length health.old) 0 (length script.now)
+        × FlowBound scope.steps flow }
     ensures { (result, (table.new, health.new))
-        ≡ (run_steps_of (steps - place) (setting headers cells script.now [])
-        (flow_of start place 0) table.old health.old).seen }
+        ≡ (run_steps_of (scope.steps - flow.place) (setting scope.headers scope.cells script.now
+        (G.protected guard.now)) flow table.old health.old).seen }
 {
-    let mut next = start;
-    let mut p = place;
-    let mut dropped = 0;
-    while p < steps {
-        let at = 3 * p;
+    let mut now = flow;
+    for place in flow.place..scope.steps {
+        let at = 3 * place;
         let kind = script[at];
         if kind == 5 {
             return Flow {
-                next,
-                place: p + 1,
-                dropped,
+                place: place + 1,
+                ..now
             };
         }
-        let s = free_step(
-            headers,
-            cells,
-            next,
+        let done = step(
+            scope,
+            now.next,
             table,
             health,
             kind,
             script[at + 1],
             script[at + 2],
+            guard,
         );
-        next = s.next;
-        dropped += s.dropped;
-        p += 1;
+        now = Flow {
+            next: done.next,
+            place: place + 1,
+            dropped: now.dropped + done.dropped,
+        };
     }
-    Flow {
-        next,
-        place: p,
-        dropped,
-    }
+    now
 }
 
-// The same, with protected leases and marks on the held list.
-fn run_marked(
-    headers: u32,
-    cells: u32,
-    start: u32,
-    place: usize,
-    before: usize,
+// The same, where a call protects leases. Before the first release nobody asks for them, so no held lease is marked.
+// (b) As one loop with marks noted where they are first asked for, a retry over a script cost 63 % more instructions.
+fn run_guarded(
+    scope: Scope,
+    flow: Flow,
     table: &mut [u32],
     health: &mut [u8],
     script: &[u32],
-    steps: usize,
-    held: &[u32],
-    taken: &[[u32; 2]; 64],
-    n: usize,
+    holds: &Holds<'_>,
     own: Hold,
 ) -> Flow
-    requires { Room headers cells (length table.old) (length health.old) n steps (length script.now)
-        × FlowBound steps (flow_of start place before) }
+    requires { RoomIn scope (length table.old) (length health.old) 0 (length script.now)
+        × FlowBound scope.steps flow }
     ensures { (result, (table.new, health.new))
-        ≡ (run_steps_of (steps - place) (setting headers cells script.now
-        (guards_of held.now taken.now n ++ (own ∷ [])))
-        (flow_of start place before) table.old health.old).seen }
+        ≡ (run_steps_of (scope.steps - flow.place) (setting scope.headers scope.cells script.now
+        (guards_of holds.now.held.now holds.now.taken.now holds.now.n ++ (own ∷ [])))
+        flow table.old health.old).seen }
 {
-    let mut marks = [filling(held.len() / 3); 256];
-    note_marks(held, &mut marks);
-    let mut next = start;
-    let mut p = place;
-    let mut dropped = before;
-    while p < steps {
-        let at = 3 * p;
+    let mut now = flow;
+    for place in flow.place..scope.steps {
+        let at = 3 * place;
         let kind = script[at];
         if kind == 5 {
             return Flow {
-                next,
-                place: p + 1,
-                dropped,
-            };
-        }
-        let s = step(
-            headers,
-            cells,
-            next,
-            table,
-            health,
-            kind,
-            script[at + 1],
-            script[at + 2],
-            held,
-            &marks,
-            taken,
-            n,
-            own,
-        );
-        next = s.next;
-        dropped += s.dropped;
-        p += 1;
-    }
-    Flow {
-        next,
-        place: p,
-        dropped,
-    }
-}
-
-// The same. Marks are noted once, where a release first asks for them.
-fn run_steps(
-    headers: u32,
-    cells: u32,
-    start: u32,
-    place: usize,
-    before: usize,
-    table: &mut [u32],
-    health: &mut [u8],
-    script: &[u32],
-    steps: usize,
-    held: &[u32],
-    taken: &[[u32; 2]; 64],
-    n: usize,
-    own: Hold,
-) -> Flow
-    requires { Room headers cells (length table.old) (length health.old) n steps (length script.now)
-        × FlowBound steps (flow_of start place before) }
-    ensures { (result, (table.new, health.new))
-        ≡ (run_steps_of (steps - place) (setting headers cells script.now
-        (guards_of held.now taken.now n ++ (own ∷ [])))
-        (flow_of start place before) table.old health.old).seen }
-{
-    let mut next = start;
-    let mut p = place;
-    let mut dropped = before;
-    while p < steps {
-        let at = 3 * p;
-        let kind = script[at];
-        if kind == 5 {
-            return Flow {
-                next,
-                place: p + 1,
-                dropped,
+                place: place + 1,
+                ..now
             };
         }
         if kind == 2 {
-            return run_marked(
-                headers, cells, next, p, dropped, table, health, script, steps, held, taken, n, own,
-            );
+            let mut marks = [filling(holds.held.len() / 3); 256];
+            note_marks(holds.held, &mut marks);
+            let holding = Holding::new(holds, own, &marks);
+            return run(scope, now, table, health, script, &holding);
         }
-        let s = other_step(
-            headers,
-            cells,
-            next,
+        let done = step(
+            scope,
+            now.next,
             table,
             health,
             kind,
             script[at + 1],
             script[at + 2],
+            &Nobody,
         );
-        next = s.next;
-        dropped += s.dropped;
-        p += 1;
+        now = Flow {
+            next: done.next,
+            place: place + 1,
+            dropped: now.dropped + done.dropped,
+        };
     }
-    Flow {
-        next,
-        place: p,
-        dropped,
-    }
+    now
 }
 
 // A boundary that protects the held list and the leases taken. Past the script's end it is quiet, and costs one test.
+#[tactic(auto, unfolding(model::specs::Foreign::boundary_of))]
 pub fn boundary(
     scope: Scope,
     flow: Flow,
     table: &mut [u32],
     health: &mut [u8],
     script: &[u32],
-    held: &[u32],
-    taken: &[[u32; 2]; 64],
-    n: usize,
+    holds: &Holds<'_>,
 ) -> Flow
-    requires { RoomIn scope (length table.old) (length health.old) n (length script.now)
+    requires { RoomIn scope (length table.old) (length health.old) holds.now.n (length script.now)
         × FlowBound scope.steps flow }
     ensures { (result, (table.new, health.new))
-        ≡ (boundary_of (setting_of scope script.now held.now taken.now n)
+        ≡ (boundary_of (setting_of scope script.now holds.now.held.now holds.now.taken.now holds.now.n)
         flow table.old health.old).seen }
 {
-    if flow.place < scope.steps {
-        let none = Hold { cell: 0, serial: 0 };
-        return run_steps(
-            scope.headers,
-            scope.cells,
-            flow.next,
-            flow.place,
-            flow.dropped,
-            table,
-            health,
-            script,
-            scope.steps,
-            held,
-            taken,
-            n,
-            none,
-        );
+    if scope.steps <= flow.place {
+        return flow;
     }
-    Flow {
-        next: flow.next,
-        place: flow.place,
-        dropped: flow.dropped,
-    }
+    // (a) No lease is this hold: law `steps_zero`, so it stands for none.
+    let none = Hold { cell: 0, serial: 0 };
+    protecting_boundary(scope, flow, table, health, script, holds, none)
 }
 
 // The same, with a lease of the call's own protected too.
+#[tactic(auto, unfolding(model::specs::Foreign::boundary_of))]
 pub fn protecting_boundary(
     scope: Scope,
     flow: Flow,
     table: &mut [u32],
     health: &mut [u8],
     script: &[u32],
-    held: &[u32],
-    taken: &[[u32; 2]; 64],
-    n: usize,
+    holds: &Holds<'_>,
     own: Hold,
 ) -> Flow
-    requires { RoomIn scope (length table.old) (length health.old) n (length script.now)
+    requires { RoomIn scope (length table.old) (length health.old) holds.now.n (length script.now)
         × FlowBound scope.steps flow }
     ensures { (result, (table.new, health.new))
-        ≡ (boundary_of (protecting (setting_of scope script.now held.now taken.now n)
+        ≡ (boundary_of (protecting (setting_of scope script.now holds.now.held.now holds.now.taken.now holds.now.n)
         (own ∷ [])) flow table.old health.old).seen }
 {
     if flow.place < scope.steps {
-        return run_steps(
-            scope.headers,
-            scope.cells,
-            flow.next,
-            flow.place,
-            flow.dropped,
-            table,
-            health,
-            script,
-            scope.steps,
-            held,
-            taken,
-            n,
-            own,
-        );
+        return run_guarded(scope, flow, table, health, script, holds, own);
     }
-    Flow {
-        next: flow.next,
-        place: flow.place,
-        dropped: flow.dropped,
-    }
+    flow
 }
 
 // ---- the checks of calls with a script, in the order of document 01's table
 
 // 2: the script is not of whole steps or too long, or the place is past its end.
-pub fn script_fault(script: &[u32], place: usize) -> Check
+#[tactic(auto, unfolding(model::specs::Refusals::first))]
+pub fn script_fault(script: &[u32], place: usize) -> Result<(), Refusal>
     ensures { result ≡ first (bad_script script.now place ∷ []) }
 {
     let steps = script.len() / 3;
-    if script.len() % 3 != 0 {
-        return Check::Fault(Refusal::BadScript);
+    if script.len() % 3 != 0 || 32768 < steps || steps < place {
+        return Err(Refusal::BadScript);
     }
-    if 32768 < steps {
-        return Check::Fault(Refusal::BadScript);
-    }
-    if steps < place {
-        return Check::Fault(Refusal::BadScript);
-    }
-    Check::Fine
+    Ok(())
 }
 
 // 2, and then the held list: 3 by its length, then 16 and 3 by position.
-pub fn lists_fault(head: Head, table: &[u32], script: &[u32], place: usize, held: &[u32]) -> Check
+#[tactic(auto, using(laws::specs::Checks::fronts))]
+pub fn lists_fault(
+    head: Head,
+    table: &[u32],
+    script: &[u32],
+    place: usize,
+    held: &[u32],
+) -> Result<(), Refusal>
     requires { shape_fits head (length table.now) ≡ true }
     ensures { result
         ≡ first (bad_script script.now place ∷ bad_held head table.now held.now) }
 {
-    let fault = script_fault(script, place);
-    match fault {
-        Check::Fault(refusal) => Check::Fault(refusal),
-        Check::Fine => lease::held_fault(head, table, held),
-    }
+    script_fault(script, place)?;
+    lease::held_fault(head, table, held)
 }
 
+#[tactic(auto, using(laws::specs::Checks::fronts), unfolding(model::specs::Checks::script_rules))]
 pub fn script_check(
     head: Head,
     table: &[u32],
@@ -639,16 +369,13 @@ pub fn script_check(
     script: &[u32],
     place: usize,
     held: &[u32],
-) -> Check
+) -> Result<(), Refusal>
     ensures { result
         ≡ first (script_rules head table.now health.now
         script.now place held.now) }
 {
-    let shape = arena::arena_fault(head, table, health);
-    match shape {
-        Check::Fault(refusal) => Check::Fault(refusal),
-        Check::Fine => lists_fault(head, table, script, place, held),
-    }
+    arena::arena_fault(head, table, health)?;
+    lists_fault(head, table, script, place, held)
 }
 
 // ---- results of calls with a script
@@ -691,6 +418,7 @@ pub fn refuse_at_once(head: Head, place: usize, refusal: Refusal) -> ScriptReply
 
 // One boundary: the script is played from its place to the next pause or its end. A step that cannot be made is dropped
 // and counted; the script frees no lease of the held list. At the script's end nothing is played.
+#[tactic(auto, unfolding(model::specs::Calls::environment_of, crate::specs::Model::run_once_of))]
 pub fn environment(
     head: Head,
     table: &mut [u32],
@@ -703,15 +431,14 @@ pub fn environment(
         ≡ (environment_of head table.old health.old
         script.now place held.now).seen }
 {
-    let check = script_check(head, table, health, script, place, held);
-    match check {
-        Check::Fault(refusal) => refuse_at_once(head, place, refusal),
-        Check::Fine => run_once(head, table, health, script, place, held),
+    match script_check(head, table, health, script, place, held) {
+        Err(refusal) => refuse_at_once(head, place, refusal),
+        Ok(()) => run_once(head, table, health, script, place, held),
     }
 }
 
-// The same: its held list is what it protects. A held lease with another boot number refuses the call with 16 and its
-// position, one that is not live with 3 and its position.
+// The same, since document 01 names both (a): its held list is what it protects. A held lease with another boot number
+// refuses the call with 16 and its position, one that is not live with 3 and its position.
 pub fn environment_for_borrows(
     head: Head,
     table: &mut [u32],
@@ -742,28 +469,25 @@ fn run_alone(
         table.old health.old).seen }
 {
     let scope = scope_of(head, script);
-    if held.len() == 0 {
-        return run_free(
-            scope.headers,
-            scope.cells,
-            head.next,
-            place,
-            table,
-            health,
-            script,
-            scope.steps,
-        );
-    }
-    let taken = [[0; 2]; 64];
     let flow = Flow {
         next: head.next,
         place,
         dropped: 0,
     };
-    boundary(scope, flow, table, health, script, held, &taken, 0)
+    if held.len() == 0 {
+        return run(scope, flow, table, health, script, &Nobody);
+    }
+    let taken = [[0; 2]; 64];
+    let holds = Holds {
+        held,
+        taken: &taken,
+        n: 0,
+    };
+    boundary(scope, flow, table, health, script, &holds)
 }
 
 // What the call replies.
+#[tactic(auto, unfolding(crate::specs::Model::run_once_of))]
 fn run_once(
     head: Head,
     table: &mut [u32],

@@ -5,19 +5,18 @@ use Prim.Native.Nat.{ℕ, zero, suc, ◌+◌, ◌*◌, ◌≤◌, ◌<◌}
 use Rattle.std.proofs.Math.Path.{◌≡◌, refl, ap, subst}
 use Rattle.std.proofs.Common.{sym, ◌∙◌, ltb-true, ltb-false}
 use mathlib.Core.List.{List, [], ◌∷◌, ◌++◌, append-nil}
-use Rattle.std.specs.Prelude.{Bool, ◌⊎◌, ltb, length, take, drop, if◌then◌else◌}
+use Rattle.std.specs.Prelude.{Bool, ◌⊎◌, ltb, length, take, drop, if◌then◌else◌, Ok, Err}
 use Rattle.std.proofs.Math.Bool.{true, false, not}
 use Rattle.std.proofs.Math.Logic.{inl, inr}
 use native.Mathlib.Omega.{arith}
 use Rattle.std.proofs.lemmas.Bool.{not-false}
+use Rattle.types.specs.Checks.{Check}
 use Rattle.model.specs.Log.{Made}
 use Rattle.model.specs.Arena.{cells_of, lease_of, is_stale, hold_in, is_live, lease_live, leases_of}
 use Rattle.model.specs.Refusals.{Rule, refuse◌carrying◌when◌, number_of, refusal_of, first}
 use Rattle.model.specs.Checks.{count_in, stale_boot, bad_shape, bad_held_length, bad_held, not_live, too_many_keys, too_many_leases, bad_cell, not_held, repeated, not_releasable, bad_bindings, cell_rules, lease_rules, held_cell_rules, held_lease_rules, script_rules, lock_rules, bucket_rules, release_rules, locks_rules}
 use Rattle.model.specs.Crew.{bad_lists, bad_turns, plan_rules, crew_rules, crew_at_work_rules}
 use Rattle.types.specs.declared.Answer.TheVariants.{Refused}
-use Rattle.types.specs.declared.Check.{Check}
-use Rattle.types.specs.declared.Check.TheVariants.{Fine, Fault}
 use Rattle.types.specs.declared.Head.{Head}
 use Rattle.types.specs.declared.Hold.{Hold}
 use Rattle.types.specs.declared.Lease.{Lease}
@@ -92,12 +91,12 @@ names_owned w (crew counts cells turns) l n k = absurd n
 names_owned w (crew_at_work counts cells turns counters) l n k = absurd n
 
 module _ (P : Refusal → Type 0) where
-  all_first : (rs : List Rule) → All P rs → (x : Refusal) → first rs ≡ Fault x → P x
+  all_first : (rs : List Rule) → All P rs → (x : Refusal) → first rs ≡ Err x → P x
   unfolding first
   all_first [] a x e = let z : ◌≡◌ {A = ℕ} 0 1 = cc in absurd (omega arith)
   all_first (r ∷ rs) a x e = go r.applies e (all_first rs a.1 x)
     where
-      go : (b : Bool) → (if b then Fault (refusal_of r.number r.carries) else first rs) ≡ Fault x → (first rs ≡ Fault x → P x) → P x
+      go : (b : Bool) → (if b then Err (refusal_of r.number r.carries) else first rs) ≡ Err x → (first rs ≡ Err x → P x) → P x
       go true q on = let y : refusal_of r.number r.carries ≡ x = cc in subst P y a.0
       go false q on = on q
 
@@ -226,26 +225,26 @@ stale_refused w k l n s = unowned_refused w k l n (λ o. differ (rw s at o))
 
 -- ---- as 16, where nothing before it refuses
 
-refused_as : (w : World) (k : Call) (r : Refusal) → first (rules w k) ≡ Fault r → answers w k ≡ Refused r
+refused_as : (w : World) (k : Call) (r : Refusal) → first (rules w k) ≡ Err r → answers w k ≡ Refused r
 refused_as w k r e =
     performed_by (λ (m : Made (World × Says)). m.seen.1.answer ≡ Refused r) w k (λ x q. let z : x ≡ r = same x q in rw z) (λ c. absurd (none c))
   where
-    same : (x : Refusal) → first (rules w k) ≡ Fault x → x ≡ r
-    same x q = let y : Fault x ≡ Fault r = sym q ∙ e in cc
+    same : (x : Refusal) → first (rules w k) ≡ Err x → x ≡ r
+    same x q = let y : Err x ≡ Err r = sym q ∙ e in cc
 
     none : Clear (rules w k) → ⊥
-    none c = let y : Fine ≡ Fault r = sym (clear_fine (rules w k) c) ∙ e in let z : ◌≡◌ {A = ℕ} 0 1 = cc in omega arith
+    none c = let y : (Ok tt) ≡ Err r = sym (clear_fine (rules w k) c) ∙ e in let z : ◌≡◌ {A = ℕ} 0 1 = cc in omega arith
 
 -- checks behind others that are fine, and before others
-behind : (xs ys : List Rule) → first xs ≡ Fine → first (xs ++ ys) ≡ first ys
+behind : (xs ys : List Rule) → first xs ≡ Ok tt → first (xs ++ ys) ≡ first ys
 behind xs ys e = first_append xs ys ∙ ap (λ (c : Check). or_else c (first ys)) e
 
-before : (xs ys : List Rule) (r : Refusal) → first xs ≡ Fault r → first (xs ++ ys) ≡ Fault r
+before : (xs ys : List Rule) (r : Refusal) → first xs ≡ Err r → first (xs ++ ys) ≡ Err r
 before xs ys r e = first_append xs ys ∙ ap (λ (c : Check). or_else c (first ys)) e
 
 module _ (h : Head) (t : List ℕ) where
-  live_hit : (n : ℕ) (ws : List ℕ) (i : ℕ) → 3 * i + 2 < length ws → first (not_live h t n (take i (leases_of ws))) ≡ Fine → is_stale h (lease_in ws i) ≡ true
-      → first (not_live h t n (leases_of ws)) ≡ Fault (StaleBoot (n + i))
+  live_hit : (n : ℕ) (ws : List ℕ) (i : ℕ) → 3 * i + 2 < length ws → first (not_live h t n (take i (leases_of ws))) ≡ Ok tt → is_stale h (lease_in ws i) ≡ true
+      → first (not_live h t n (leases_of ws)) ≡ Err (StaleBoot (n + i))
   unfolding not_live leases_of
   live_hit n [] i b f s = absurd (omega arith)
   live_hit n (c ∷ []) i b f s = absurd (omega arith)
@@ -256,10 +255,10 @@ module _ (h : Head) (t : List ℕ) where
       let y = fine_rest _ _ x.1 in
       let z : n + 1 + i ≡ n + suc i = omega arith in
       first_skip _ _ x.0 ∙ first_skip _ _ y.0
-      ∙ live_hit (n + 1) ws i (omega arith) y.1 (subst (λ (l : Lease). is_stale h l ≡ true) (lease_later c d e ws i) s) ∙ ap (λ (p : ℕ). Fault (StaleBoot p)) z
+      ∙ live_hit (n + 1) ws i (omega arith) y.1 (subst (λ (l : Lease). is_stale h l ≡ true) (lease_later c d e ws i) s) ∙ ap (λ (p : ℕ). Err (StaleBoot p)) z
 
-  release_hit : (n : ℕ) (earlier : List Hold) (ws : List ℕ) (i : ℕ) → 3 * i + 2 < length ws → first (not_releasable h t n earlier (take i (leases_of ws))) ≡ Fine
-      → is_stale h (lease_in ws i) ≡ true → first (not_releasable h t n earlier (leases_of ws)) ≡ Fault (StaleBoot (n + i))
+  release_hit : (n : ℕ) (earlier : List Hold) (ws : List ℕ) (i : ℕ) → 3 * i + 2 < length ws → first (not_releasable h t n earlier (take i (leases_of ws))) ≡ Ok tt
+      → is_stale h (lease_in ws i) ≡ true → first (not_releasable h t n earlier (leases_of ws)) ≡ Err (StaleBoot (n + i))
   unfolding not_releasable leases_of
   release_hit n earlier [] i b f s = absurd (omega arith)
   release_hit n earlier (c ∷ []) i b f s = absurd (omega arith)
@@ -271,25 +270,25 @@ module _ (h : Head) (t : List ℕ) where
       let v = fine_rest _ _ y.1 in
       let z : n + 1 + i ≡ n + suc i = omega arith in
       first_skip _ _ x.0 ∙ first_skip _ _ y.0 ∙ first_skip _ _ v.0
-      ∙ release_hit (n + 1) _ ws i (omega arith) v.1 (subst (λ (l : Lease). is_stale h l ≡ true) (lease_later c d e ws i) s) ∙ ap (λ (p : ℕ). Fault (StaleBoot p)) z
+      ∙ release_hit (n + 1) _ ws i (omega arith) v.1 (subst (λ (l : Lease). is_stale h l ≡ true) (lease_later c d e ws i) s) ∙ ap (λ (p : ℕ). Err (StaleBoot p)) z
 
-one_hit : (w : World) (l : Lease) → first (bad_shape w.head w.table ∷ []) ≡ Fine → is_stale w.head l ≡ true → first (lease_rules w.head w.table l) ≡ Fault (StaleBoot 0)
+one_hit : (w : World) (l : Lease) → first (bad_shape w.head w.table ∷ []) ≡ Ok tt → is_stale w.head l ≡ true → first (lease_rules w.head w.table l) ≡ Err (StaleBoot 0)
 unfolding lease_rules
 one_hit w l f s = behind (bad_shape w.head w.table ∷ []) _ f ∙ first_hit (stale_boot w.head 0 l) _ s
 
 -- a held list, behind other checks and before others
 held_hit : (w : World) (front rest : List Rule) (held : List ℕ) (i : ℕ) → 3 * i + 2 < length held
-    → first (front ++ (bad_held_length held ∷ not_live w.head w.table 0 (take i (leases_of held)))) ≡ Fine → is_stale w.head (lease_in held i) ≡ true
-    → first (front ++ (bad_held w.head w.table held ++ rest)) ≡ Fault (StaleBoot i)
+    → first (front ++ (bad_held_length held ∷ not_live w.head w.table 0 (take i (leases_of held)))) ≡ Ok tt → is_stale w.head (lease_in held i) ≡ true
+    → first (front ++ (bad_held w.head w.table held ++ rest)) ≡ Err (StaleBoot i)
 held_hit w front rest held i b f s =
     let x = fine_append front _ f in
     let y = fine_rest _ _ x.1 in
     let z : 0 + i ≡ i = omega arith in
     behind front _ x.0
     ∙ before (bad_held w.head w.table held) rest (StaleBoot i)
-    (first_skip (bad_held_length held) _ y.0 ∙ live_hit w.head w.table 0 held i b y.1 s ∙ ap (λ (p : ℕ). Fault (StaleBoot p)) z)
+    (first_skip (bad_held_length held) _ y.0 ∙ live_hit w.head w.table 0 held i b y.1 s ∙ ap (λ (p : ℕ). Err (StaleBoot p)) z)
 
-hit_alone : (w : World) (k : Call) (l : Lease) → OneLease k l → first (bad_shape w.head w.table ∷ []) ≡ Fine → is_stale w.head l ≡ true → first (rules w k) ≡ Fault (StaleBoot 0)
+hit_alone : (w : World) (k : Call) (l : Lease) → OneLease k l → first (bad_shape w.head w.table ∷ []) ≡ Ok tt → is_stale w.head l ≡ true → first (rules w k) ≡ Err (StaleBoot 0)
 hit_alone w (try_acquire c) l o f s = absurd o
 hit_alone w (drop_lease m) l o f s = one_hit w m f (ap (λ (x : Lease). is_stale w.head x) o ∙ s)
 hit_alone w (read_permission m) l o f s = one_hit w m f (ap (λ (x : Lease). is_stale w.head x) o ∙ s)
@@ -309,19 +308,19 @@ hit_alone w (crew counts cells turns) l o f s = absurd o
 hit_alone w (crew_at_work counts cells turns counters) l o f s = absurd o
 
 hit_beside : (w : World) (k : Call) (held : List ℕ) (l : Lease) → Beside k held l
-    → first (bad_shape w.head w.table ∷ bad_held w.head w.table held) ≡ Fine → is_stale w.head l ≡ true → first (rules w k) ≡ Fault (StaleBoot 0)
+    → first (bad_shape w.head w.table ∷ bad_held w.head w.table held) ≡ Ok tt → is_stale w.head l ≡ true → first (rules w k) ≡ Err (StaleBoot 0)
 unfolding held_lease_rules
 hit_beside w _ held l (releases_between _ _) f s = behind (bad_shape w.head w.table ∷ bad_held w.head w.table held) _ f ∙ first_hit (stale_boot w.head 0 l) _ s
 hit_beside w _ held l (drops_beside _ _) f s = behind (bad_shape w.head w.table ∷ bad_held w.head w.table held) _ f ∙ first_hit (stale_boot w.head 0 l) _ s
 
 hit_listed : (w : World) (k : Call) (leases : List ℕ) (ahead : ℕ → List Rule) (i : ℕ) → Listed w k leases ahead → 3 * i + 2 < length leases
-    → first (ahead i) ≡ Fine → is_stale w.head (lease_in leases i) ≡ true → first (rules w k) ≡ Fault (StaleBoot i)
+    → first (ahead i) ≡ Ok tt → is_stale w.head (lease_in leases i) ≡ true → first (rules w k) ≡ Err (StaleBoot i)
 unfolding held_cell_rules held_lease_rules script_rules lock_rules bucket_rules release_rules locks_rules
 hit_listed w _ _ _ i (beside_release held l) b f s = held_hit w (bad_shape w.head w.table ∷ []) _ held i b f s
 hit_listed w _ _ _ i (beside_drop held l) b f s = held_hit w (bad_shape w.head w.table ∷ []) _ held i b f s
 hit_listed w _ _ _ i (beside_acquire held c) b f s = held_hit w (bad_shape w.head w.table ∷ []) _ held i b f s
 hit_listed w _ _ _ i (in_environment script place held) b f s =
-    subst (λ (xs : List Rule). first (scripted w script place ++ xs) ≡ Fault (StaleBoot i)) (append-nil (bad_held w.head w.table held)) (held_hit w (scripted w script place) [] held i b f s)
+    subst (λ (xs : List Rule). first (scripted w script place ++ xs) ≡ Err (StaleBoot i)) (append-nil (bad_held w.head w.table held)) (held_hit w (scripted w script place) [] held i b f s)
 hit_listed w _ _ _ i (in_lock script place held c) b f s = held_hit w (scripted w script place) _ held i b f s
 hit_listed w _ _ _ i (in_attempt registry script place held binding bucket) b f s = held_hit w (keyed w registry script place) _ held i b f s
 hit_listed w _ _ _ i (in_attempts registry script place held binding bucket) b f s = held_hit w (keyed w registry script place) _ held i b f s
@@ -332,10 +331,10 @@ hit_listed w _ _ _ i (to_release script place leases) b f s =
     let y = fine_rest _ _ x.1 in
     let z : 0 + i ≡ i = omega arith in
     behind (scripted w script place) _ x.0 ∙ first_skip (too_many_leases leases) _ y.0 ∙ release_hit w.head w.table 0 [] leases i b y.1 s
-    ∙ ap (λ (p : ℕ). Fault (StaleBoot p)) z
+    ∙ ap (λ (p : ℕ). Err (StaleBoot p)) z
 
-hit_placed : (w : World) (k : Call) (l : Lease) (ahead : List Rule) (i : ℕ) → Placed w k l ahead i → first ahead ≡ Fine → is_stale w.head l ≡ true
-    → first (rules w k) ≡ Fault (StaleBoot i)
+hit_placed : (w : World) (k : Call) (l : Lease) (ahead : List Rule) (i : ℕ) → Placed w k l ahead i → first ahead ≡ Ok tt → is_stale w.head l ≡ true
+    → first (rules w k) ≡ Err (StaleBoot i)
 hit_placed w k l _ _ (alone o) f s = hit_alone w k l o f s
 hit_placed w k l _ _ (beside held o) f s = hit_beside w k held l o f s
 hit_placed w k l _ _ (listed leases ahead i o b e) f s = hit_listed w k leases ahead i o b f (ap (is_stale w.head) e ∙ s)
@@ -343,54 +342,54 @@ hit_placed w k l _ _ (listed leases ahead i o b e) f s = hit_listed w k leases a
 -- ---- and only there
 
 -- an early refusal is one of the checks: no steps answer it
-refused_by : (w : World) (k : Call) (r : Refusal) → Early k r → answers w k ≡ Refused r → first (rules w k) ≡ Fault r
+refused_by : (w : World) (k : Call) (r : Refusal) → Early k r → answers w k ≡ Refused r → first (rules w k) ≡ Err r
 refused_by w k r early =
-    performed_by (λ (m : Made (World × Says)). m.seen.1.answer ≡ Refused r → first (rules w k) ≡ Fault r) w k
-    (λ x e q. let z : x ≡ r = cc in e ∙ ap Fault z) (λ _ q. absurd (past_checks_never w k r q early))
+    performed_by (λ (m : Made (World × Says)). m.seen.1.answer ≡ Refused r → first (rules w k) ≡ Err r) w k
+    (λ x e q. let z : x ≡ r = cc in e ∙ ap Err z) (λ _ q. absurd (past_checks_never w k r q early))
 
-none_16 : (rs : List Rule) (p : ℕ) → Below16 rs → first rs ≡ Fault (StaleBoot p) → ⊥
+none_16 : (rs : List Rule) (p : ℕ) → Below16 rs → first rs ≡ Err (StaleBoot p) → ⊥
 none_16 rs p a e = let z : 16 < 16 = all_first (λ (r : Refusal). number_of r < 16) rs a (StaleBoot p) e in omega arith
 
 -- of two lists the first refuses, or it is fine and the second does
-fault_append : (xs ys : List Rule) (r : Refusal) → first (xs ++ ys) ≡ Fault r → (first xs ≡ Fault r) ⊎ ((first xs ≡ Fine) × (first ys ≡ Fault r))
+fault_append : (xs ys : List Rule) (r : Refusal) → first (xs ++ ys) ≡ Err r → (first xs ≡ Err r) ⊎ ((first xs ≡ Ok tt) × (first ys ≡ Err r))
 fault_append xs ys r e = go (first xs) refl (sym (first_append xs ys) ∙ e)
   where
-    go : (c : Check) → first xs ≡ c → or_else c (first ys) ≡ Fault r → (first xs ≡ Fault r) ⊎ ((first xs ≡ Fine) × (first ys ≡ Fault r))
-    go Fine x q = inr (x, q)
-    go (Fault z) x q = inl (x ∙ q)
+    go : (c : Check) → first xs ≡ c → or_else c (first ys) ≡ Err r → (first xs ≡ Err r) ⊎ ((first xs ≡ Ok tt) × (first ys ≡ Err r))
+    go (Ok tt) x q = inr (x, q)
+    go (Err z) x q = inl (x ∙ q)
 
 -- so where checks of other numbers stand before or behind, 16 is of the rest
-past : (xs ys : List Rule) (p : ℕ) → Below16 xs → first (xs ++ ys) ≡ Fault (StaleBoot p) → (first xs ≡ Fine) × (first ys ≡ Fault (StaleBoot p))
+past : (xs ys : List Rule) (p : ℕ) → Below16 xs → first (xs ++ ys) ≡ Err (StaleBoot p) → (first xs ≡ Ok tt) × (first ys ≡ Err (StaleBoot p))
 past xs ys p a e = elim (fault_append xs ys (StaleBoot p) e) [ inl q ↦ absurd (none_16 xs p a q) | inr q ↦ q ]
 
-ahead_of : (xs ys : List Rule) (p : ℕ) → Below16 ys → first (xs ++ ys) ≡ Fault (StaleBoot p) → first xs ≡ Fault (StaleBoot p)
+ahead_of : (xs ys : List Rule) (p : ℕ) → Below16 ys → first (xs ++ ys) ≡ Err (StaleBoot p) → first xs ≡ Err (StaleBoot p)
 ahead_of xs ys p a e = elim (fault_append xs ys (StaleBoot p) e) [ inl q ↦ q | inr q ↦ absurd (none_16 ys p a q.1) ]
 
 module _ (h : Head) where
-  one_stale : (i : ℕ) (l : Lease) (p : ℕ) → first (stale_boot h i l ∷ []) ≡ Fault (StaleBoot p) → (i ≡ p) × (is_stale h l ≡ true)
+  one_stale : (i : ℕ) (l : Lease) (p : ℕ) → first (stale_boot h i l ∷ []) ≡ Err (StaleBoot p) → (i ≡ p) × (is_stale h l ≡ true)
   unfolding first
   one_stale i l p e = go (is_stale h l) refl e
     where
-      go : (b : Bool) → is_stale h l ≡ b → (if b then Fault (StaleBoot i) else Fine) ≡ Fault (StaleBoot p) → (i ≡ p) × (is_stale h l ≡ true)
+      go : (b : Bool) → is_stale h l ≡ b → ◌≡◌ {A = Check} (if b then Err (StaleBoot i) else Ok tt) (Err (StaleBoot p)) → (i ≡ p) × (is_stale h l ≡ true)
       go true s q = (cc, s)
       go false s q = let z : ◌≡◌ {A = ℕ} 0 1 = cc in absurd (omega arith)
 
   -- a lease of a list, tested for its boot number and for more: it is stale, or all is fine and 16 is of a later one
-  turn : (i : ℕ) (l : Lease) (others rest : List Rule) (p : ℕ) → Below16 others → first (stale_boot h i l ∷ (others ++ rest)) ≡ Fault (StaleBoot p)
-      → ((i ≡ p) × (is_stale h l ≡ true)) ⊎ ((first (stale_boot h i l ∷ others) ≡ Fine) × (first rest ≡ Fault (StaleBoot p)))
+  turn : (i : ℕ) (l : Lease) (others rest : List Rule) (p : ℕ) → Below16 others → first (stale_boot h i l ∷ (others ++ rest)) ≡ Err (StaleBoot p)
+      → ((i ≡ p) × (is_stale h l ≡ true)) ⊎ ((first (stale_boot h i l ∷ others) ≡ Ok tt) × (first rest ≡ Err (StaleBoot p)))
   turn i l others rest p a e = go (fault_append (stale_boot h i l ∷ []) (others ++ rest) (StaleBoot p) e)
     where
-      go : (first (stale_boot h i l ∷ []) ≡ Fault (StaleBoot p)) ⊎ ((first (stale_boot h i l ∷ []) ≡ Fine) × (first (others ++ rest) ≡ Fault (StaleBoot p)))
-          → ((i ≡ p) × (is_stale h l ≡ true)) ⊎ ((first (stale_boot h i l ∷ others) ≡ Fine) × (first rest ≡ Fault (StaleBoot p)))
+      go : (first (stale_boot h i l ∷ []) ≡ Err (StaleBoot p)) ⊎ ((first (stale_boot h i l ∷ []) ≡ Ok tt) × (first (others ++ rest) ≡ Err (StaleBoot p)))
+          → ((i ≡ p) × (is_stale h l ≡ true)) ⊎ ((first (stale_boot h i l ∷ others) ≡ Ok tt) × (first rest ≡ Err (StaleBoot p)))
       go (inl q) = inl (one_stale i l p q)
       go (inr q) = let x = past others rest p a q.1 in inr (behind (stale_boot h i l ∷ []) others q.0 ∙ x.0, x.1)
 
   -- a stale lease of a list, at position p counted from n, and what is tested before it is fine
   abbrev StaleAt : (ℕ → List Rule) → ℕ → List ℕ → ℕ → Type 0
-  StaleAt ahead n ws p = (i : ℕ) × (n + i ≡ p) × (3 * i + 2 < length ws) × (first (ahead i) ≡ Fine) × (is_stale h (lease_in ws i) ≡ true)
+  StaleAt ahead n ws p = (i : ℕ) × (n + i ≡ p) × (3 * i + 2 < length ws) × (first (ahead i) ≡ Ok tt) × (is_stale h (lease_in ws i) ≡ true)
 
 module _ (h : Head) (t : List ℕ) where
-  live_found : (n : ℕ) (ws : List ℕ) (p : ℕ) → first (not_live h t n (leases_of ws)) ≡ Fault (StaleBoot p)
+  live_found : (n : ℕ) (ws : List ℕ) (p : ℕ) → first (not_live h t n (leases_of ws)) ≡ Err (StaleBoot p)
       → StaleAt h (λ i. not_live h t n (take i (leases_of ws))) n ws p
   unfolding first not_live leases_of
   live_found n [] p q = let z : ◌≡◌ {A = ℕ} 0 1 = cc in absurd (omega arith)
@@ -411,7 +410,7 @@ module _ (h : Head) (t : List ℕ) where
             )
       ]
 
-  release_found : (n : ℕ) (earlier : List Hold) (ws : List ℕ) (p : ℕ) → first (not_releasable h t n earlier (leases_of ws)) ≡ Fault (StaleBoot p)
+  release_found : (n : ℕ) (earlier : List Hold) (ws : List ℕ) (p : ℕ) → first (not_releasable h t n earlier (leases_of ws)) ≡ Err (StaleBoot p)
       → StaleAt h (λ i. not_releasable h t n earlier (take i (leases_of ws))) n ws p
   unfolding first not_releasable leases_of
   release_found n earlier [] p q = let z : ◌≡◌ {A = ℕ} 0 1 = cc in absurd (omega arith)
@@ -439,7 +438,7 @@ listed_found w k leases ahead p o m =
     subst (Found w k) e (lease_in leases m.0, ahead m.0, listed leases ahead m.0 o m.2 refl, m.3, m.4)
 
 -- in a held list behind other checks
-held_found : (w : World) (front : List Rule) (held : List ℕ) (p : ℕ) → Below16 front → first (front ++ bad_held w.head w.table held) ≡ Fault (StaleBoot p)
+held_found : (w : World) (front : List Rule) (held : List ℕ) (p : ℕ) → Below16 front → first (front ++ bad_held w.head w.table held) ≡ Err (StaleBoot p)
     → StaleAt w.head (λ i. front ++ held_before w held i) 0 held p
 held_found w front held p a e =
     let x = past front _ p a e in
@@ -447,7 +446,7 @@ held_found w front held p a e =
     let m = live_found w.head w.table 0 held p y.1 in
     (m.0, m.1, m.2, behind front _ x.0 ∙ behind (bad_held_length held ∷ []) _ y.0 ∙ m.3, m.4)
 
-alone_found : (w : World) (k : Call) (l : Lease) (p : ℕ) → OneLease k l → first (lease_rules w.head w.table l) ≡ Fault (StaleBoot p) → Found w k p
+alone_found : (w : World) (k : Call) (l : Lease) (p : ℕ) → OneLease k l → first (lease_rules w.head w.table l) ≡ Err (StaleBoot p) → Found w k p
 unfolding lease_rules
 alone_found w k l p o e =
     let x = past (bad_shape w.head w.table ∷ []) _ p (omega arith, tt) e in
@@ -455,7 +454,7 @@ alone_found w k l p o e =
     subst (Found w k) y.0 (l, _, alone o, x.0, y.1)
 
 beside_found : (w : World) (k : Call) (held : List ℕ) (l : Lease) (p : ℕ) → Beside k held l → Listed w k held (λ i. bad_shape w.head w.table ∷ held_before w held i)
-    → first (held_lease_rules w.head w.table held l) ≡ Fault (StaleBoot p) → Found w k p
+    → first (held_lease_rules w.head w.table held l) ≡ Err (StaleBoot p) → Found w k p
 unfolding held_lease_rules
 beside_found w k held l p o c e =
     elim (fault_append (bad_shape w.head w.table ∷ bad_held w.head w.table held) _ (StaleBoot p) e) [
@@ -468,7 +467,7 @@ beside_found w k held l p o c e =
 -- of a call by key: behind the held list stand checks of other numbers
 keyed_found : (w : World) (k : Call) (registry script : List ℕ) (place : ℕ) (held : List ℕ) (rest : List Rule) (p : ℕ)
     → Listed w k held (λ i. keyed w registry script place ++ held_before w held i) → Below16 rest
-    → first ((keyed w registry script place ++ bad_held w.head w.table held) ++ rest) ≡ Fault (StaleBoot p) → Found w k p
+    → first ((keyed w registry script place ++ bad_held w.head w.table held) ++ rest) ≡ Err (StaleBoot p) → Found w k p
 keyed_found w k registry script place held rest p o a e =
     listed_found w k held _ p o (held_found w (keyed w registry script place) held p (omega arith, (omega arith, (omega arith, (omega arith, tt))))
     (ahead_of (keyed w registry script place ++ bad_held w.head w.table held) rest p a e))
@@ -491,7 +490,7 @@ plan_below : (h : Head) (counts cells turns : List ℕ) → Below16 (plan_rules 
 plan_below h counts cells turns =
     (omega arith, all_append (λ (r : Refusal). number_of r < 16) (bad_lists (length counts) 0 (cells_of h) counts cells) _ (lists_below (length counts) 0 (cells_of h) counts cells) (turns_below (length counts) 0 turns))
 
-stale_found : (w : World) (k : Call) (p : ℕ) → first (rules w k) ≡ Fault (StaleBoot p) → Found w k p
+stale_found : (w : World) (k : Call) (p : ℕ) → first (rules w k) ≡ Err (StaleBoot p) → Found w k p
 unfolding cell_rules held_cell_rules script_rules lock_rules bucket_rules release_rules locks_rules crew_rules crew_at_work_rules
 stale_found w (try_acquire c) p e = absurd (none_16 (rules w (try_acquire c)) p (omega arith, (omega arith, tt)) e)
 stale_found w (drop_lease l) p e = alone_found w (drop_lease l) l p refl e

@@ -3,12 +3,13 @@
 -- ---- which cell a grant names
 use Prim.Native.Nat.{ℕ, zero, suc, ◌+◌, ◌*◌, ◌<◌}
 use Rattle.std.proofs.Math.Path.{◌≡◌}
-use Rattle.std.specs.Prelude.{refl, leb, length}
+use Rattle.std.specs.Prelude.{refl, leb, length, Ok, Err}
 use Rattle.std.proofs.Common.{sym, ap, ◌∙◌, arith}
 use mathlib.Core.List.{List, [], ◌∷◌, ◌++◌}
 use Rattle.std.proofs.Math.Decide.{ℕ_discrete}
 use Rattle.std.proofs.Math.ListN.{get_or, length-append, get_or-append}
 use Rattle.std.proofs.Math.Seq.{get_or-append_seam}
+use Rattle.types.specs.Checks.{Found}
 use Rattle.model.specs.Log.{Made}
 use Rattle.model.specs.Arena.{is_poisoned, hold_of, holds_of, set_cell, lease_under}
 use Rattle.model.specs.Foreign.{Setting, protecting, flow_of}
@@ -18,9 +19,6 @@ use Rattle.model.specs.Calls.{starting, acquire_of}
 use Rattle.model.specs.Sorted.{cells_sorted, sorted_keys, first_key, asked_first}
 use Rattle.types.specs.declared.Answer.{Answer}
 use Rattle.types.specs.declared.Answer.TheVariants.{Done, Cell, Granted, AllGranted, Busy, Refused, RefusedAt}
-use Rattle.types.specs.declared.Check.TheVariants.{Fault}
-use Rattle.types.specs.declared.Found.{Found}
-use Rattle.types.specs.declared.Found.TheVariants as found
 use Rattle.types.specs.declared.Head.{Head}
 use Rattle.types.specs.declared.Hold.{Hold}
 use Rattle.types.specs.declared.Lease.{Lease}
@@ -72,8 +70,8 @@ module _ (e : Setting) (buckets : ℕ) (registry : List ℕ) (binding bucket : �
   attempt_names r t g = go (find_of e.headers buckets g registry binding bucket) (found_own g)
     where
       go : (x : Found) → FoundAt own x → Names own (attempt_at x e buckets r t g).seen.0.outcome
-      go (found.Fault x) h l a = let z : ◌≡◌ {A = ℕ} 0 1 = cc in absurd (omega arith)
-      go (found.At c) h l a = lock_names (lock_comes e buckets c r.flow t g) l a ∙ h
+      go (Err x) h l a = let z : ◌≡◌ {A = ℕ} 0 1 = cc in absurd (omega arith)
+      go (Ok c) h l a = lock_names (lock_comes e buckets c r.flow t g) l a ∙ h
 
   pub retry_names : (left i : ℕ) (last : Reason) (r : Run) (t g : List ℕ) → Names own (retry_of left i last e buckets registry binding bucket r t g).seen.0.outcome
   unfolding retry_of

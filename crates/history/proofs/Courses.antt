@@ -1,8 +1,10 @@
 -- Every item of a history keeps the ledger: calls, lone foreign steps, further preparations and salvages.
-use Rattle.std.specs.Prelude.{ℕ, zero, suc, ◌*◌, ◌≡◌, refl, eqb, length, replicate}
+use Rattle.std.specs.Prelude.{ℕ, zero, suc, ◌*◌, ◌≡◌, refl, eqb, length, replicate, Ok, Err}
 use Rattle.std.proofs.Common.{sym, ap, ◌∙◌, subst, arith}
 use mathlib.Core.List.{List, [], ◌∷◌, ◌++◌, append-nil, append_assoc}
 use Rattle.std.proofs.lemmas.List.{length-replicate}
+use Rattle.types.specs.Checks.{SalvageAnswer}
+use Rattle.types.specs.declared.SalvageRefusal.TheVariants as salvaged
 use Rattle.model.specs.Log.{Actor, Event, took}
 use Rattle.model.specs.Arena.{cells_of, head_of, hold_of, bit_at, shape_fits, health_fits}
 use Rattle.model.specs.Calls.{prepare_of}
@@ -11,8 +13,6 @@ use Rattle.types.specs.declared.Answer.{Answer}
 use Rattle.types.specs.declared.Answer.TheVariants.{Done, Cell, Granted, AllGranted, Busy, Refused, RefusedAt}
 use Rattle.types.specs.declared.Head.{Head}
 use Rattle.types.specs.declared.Hold.{Hold}
-use Rattle.types.specs.declared.SalvageAnswer.{SalvageAnswer}
-use Rattle.types.specs.declared.SalvageAnswer.TheVariants as salvaged
 use Rattle.choice.specs.Pick.{both}
 use Rattle.laws.specs.Shape.{Shaped, shaped, healthy}
 use Rattle.laws.specs.Lists.{zero_bit, zero_owner}
@@ -94,7 +94,7 @@ module _ (headers buckets serial boot : ℕ) where
 
 module _ (paper : Head) (t g report list : List ℕ) where
   abbrev Undone : SalvageAnswer → Type 0
-  Undone a = (e n : ℕ) × (a ≡ salvaged.Done e n) → ⊥
+  Undone a = (e n : ℕ) × (a ≡ Ok (e, n)) → ⊥
 
   -- done, it begins a stretch; refused, the one before goes on in the world that stays
   salvage_stretch : (v : World) (k : Course)
@@ -265,7 +265,7 @@ begun k (salvage_over paper t g report list) d = salvage_stretch paper t g repor
 prepared_yet : (a : Answer) (w v : World) (k : Course) → a ≡ Done → (prepared_by a w v k).entries ≡ []
 prepared_yet a w v k d = ap (λ (x : Answer). (prepared_by x w v k).entries) d
 
-salvaged_yet : (a : SalvageAnswer) (w v : World) (k : Course) (e n : ℕ) → a ≡ salvaged.Done e n → (salvaged_by a w v k).entries ≡ []
+salvaged_yet : (a : SalvageAnswer) (w v : World) (k : Course) (e n : ℕ) → a ≡ Ok (e, n) → (salvaged_by a w v k).entries ≡ []
 salvaged_yet a w v k e n d = ap (λ (x : SalvageAnswer). (salvaged_by x w v k).entries) d
 
 pub nothing_yet : (k : Course) (i : Item) → Begins k.world i → (next_item k i).entries ≡ []
@@ -327,11 +327,11 @@ not_prepared (Busy why) w v k n = refl
 not_prepared (Refused r) w v k n = refl
 not_prepared (RefusedAt r p) w v k n = refl
 
-pub not_salvaged : (a : SalvageAnswer) (w v : World) (k : Course) → ((e n : ℕ) × (a ≡ salvaged.Done e n) → ⊥)
+pub not_salvaged : (a : SalvageAnswer) (w v : World) (k : Course) → ((e n : ℕ) × (a ≡ Ok (e, n)) → ⊥)
     → salvaged_by a w v k ≡ course_of k.origin k.entries v
-not_salvaged (salvaged.Done e m) w v k n = absurd (n (e, m, refl))
-not_salvaged salvaged.BadShape w v k n = refl
-not_salvaged salvaged.ReportFull w v k n = refl
+not_salvaged (Ok (e, m)) w v k n = absurd (n (e, m, refl))
+not_salvaged (Err salvaged.BadShape) w v k n = refl
+not_salvaged (Err salvaged.ReportFull) w v k n = refl
 
 pub refused_stays : RefusedStays
 unfolding next_item

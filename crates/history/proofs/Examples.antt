@@ -1,8 +1,9 @@
 -- Examples that meet the premises of each theorem, so that none speaks of nothing. By computation, on document 01's bench arena: H 2, B 4,
 -- registry 0, 1, 1, first serial 1, boot number 6.
 -- ---- a day
-use Rattle.std.specs.Prelude.{ℕ, suc, zero, ◌+◌, ◌≤◌, ◌<◌, ◌≡◌, refl, List, [], ◌∷◌, ◌++◌, true, replicate}
+use Rattle.std.specs.Prelude.{ℕ, suc, zero, ◌+◌, ◌≤◌, ◌<◌, ◌≡◌, refl, List, [], ◌∷◌, ◌++◌, true, replicate, Ok, Err}
 use Rattle.std.proofs.Common.{sym, ap, ◌∙◌, subst, inl, inr, arith}
+use Rattle.types.specs.declared.SalvageRefusal.TheVariants as salvaged
 use Rattle.model.specs.Log.{Made, Event, by_caller, by_script, attempt_begun, boundary_run, took, released, waiters_set, health_set, Actor, step_dropped}
 use Rattle.model.specs.Arena.{head_of, lease_of, is_stale, hold_of, bit_at, owner_at, waiters_at, set_cell, set_waiters, is_free, is_held, state_of, state_at, is_live, leases_of, holds_of, words_of, same_hold, is_in, head_fits, shape_fits, health_fits, registry_fits}
 use Rattle.model.specs.Refusals.{Rule, first}
@@ -21,7 +22,6 @@ use Rattle.types.specs.declared.Reason.TheVariants as reason
 use Rattle.types.specs.declared.Lease.{Lease}
 use Rattle.types.specs.declared.Refusal.{Refusal}
 use Rattle.types.specs.declared.Refusal.TheVariants.{StaleBoot, Poisoned, InvalidBucket, NotHeld, BadCrew, Damaged, BadShape}
-use Rattle.types.specs.declared.SalvageAnswer.TheVariants as salvaged
 use Rattle.history.specs.World.{World, world_of, Live, Healthy, now, Sound, Spent, Unreleased, number_of_lem, takes}
 use Rattle.history.specs.Items.{Call, Says, salvage, salvaging, acquire_bucket, try_lock, drop_lease, competing_acquire, drop_preserving, release_all, acquire_locks, environment, try_acquire, perform, foreign, Item, call, foreign_step, preparation, Course, course_of, cold, next_item, run, preparing, held_of, Entry, noted, preparation_over, entry_of, events_of, history_of, saying, says}
 use Rattle.history.specs.Statements.{drops_beside, to_release, Placed, alone, beside, listed, Begins, Fresh, Ledger, other_runs, answers, leaves, log_of, HandsOver, RolledBack, buffer_in, Fails}
@@ -111,14 +111,14 @@ unfolding run next_item preparing perform foreign bit_at owner_at waiters_at set
 refused_again = (refl, refl)
 
 pub salvaged_then : (after (day ++ (salvage on_paper (replicate 3 9) [] ∷ [])) ≡ cold (world_of on_paper (replicate 24 0) (replicate 2 0)))
-    × ((salvaging on_paper the_day.world.table the_day.world.health (replicate 3 9) []).0 ≡ salvaged.Done 1 0)
+    × ((salvaging on_paper the_day.world.table the_day.world.health (replicate 3 9) []).0 ≡ Ok (1, 0))
 unfolding run next_item preparing salvaging perform foreign bit_at owner_at waiters_at set_cell set_waiters is_free is_held state_of state_at is_live leases_of holds_of words_of same_hold is_in head_fits shape_fits health_fits registry_fits first step_take_of step_release_of step_waiters_of step_health_of step_of run_steps_of boundary_of take_of late_stage_of second_stage_of lock_of find_of attempt_of spin_of pause_of retry_of give_back_of rollback_of locks_of not_live bad_bindings not_releasable prepare_rules cell_rules lease_rules script_rules lock_rules bucket_rules release_rules locks_rules prepare_of acquire_of try_acquire_of drop_lease_of environment_of try_lock_of acquire_bucket_of release_all_of acquire_locks_of kept_of mended_cell mended_table mended_byte mended_health change_of changes_from changes_of held_from left_held over_of is_report_full mend_of go_over_of salvage_of
 salvaged_then = (refl, refl)
 
 -- `salvage_refused_stays`: with no report it is refused, and the day goes on
 full_then : Begins the_day.world (salvage on_paper [] []) → ⊥
 unfolding salvaging bit_at owner_at set_waiters is_free is_held state_of head_fits shape_fits health_fits first prepare_rules kept_of mended_cell mended_table mended_byte mended_health change_of changes_from changes_of held_from left_held over_of is_report_full mend_of go_over_of salvage_of
-full_then d = let q : salvaged.ReportFull ≡ salvaged.Done d.0 d.1 = d.2 in let z : ◌≡◌ {A = ℕ} 0 1 = cc in omega arith
+full_then d = let q : (Err salvaged.ReportFull) ≡ Ok (d.0, d.1) = d.2 in let z : ◌≡◌ {A = ℕ} 0 1 = cc in omega arith
 
 pub unsalvaged_then : next_item the_day (salvage on_paper [] []) ≡ the_day
 unsalvaged_then = salvage_refused_stays the_day on_paper [] [] full_then

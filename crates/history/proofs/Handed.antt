@@ -2,7 +2,7 @@
 -- answers and next serials only: no arena has to be sound.
 -- ---- logs
 use Prim.Native.Nat.{ℕ, zero, suc, ◌+◌, ◌-◌, ◌%◌, ◌≤◌, ◌<◌}
-use Rattle.std.specs.Prelude.{◌≡◌, refl, ◌&&◌, ◌⊎◌, ltb, eqb, length, take}
+use Rattle.std.specs.Prelude.{◌≡◌, refl, ◌&&◌, ◌⊎◌, ltb, eqb, length, take, Ok, Err}
 use Rattle.std.proofs.Common.{sym, ap, ◌∙◌}
 use Rattle.std.proofs.Math.Path.{subst}
 use mathlib.Core.List.{List, [], ◌∷◌, ◌++◌, append_assoc}
@@ -10,13 +10,12 @@ use Rattle.std.proofs.Math.Bool.{not}
 use Rattle.std.proofs.Math.Logic.{inl, inr}
 use native.Mathlib.Omega.{arith}
 use Rattle.std.proofs.Math.Dec.{leb}
+use Rattle.types.specs.Checks.{Found}
 use Rattle.model.specs.Log.{Made, Event, by_caller, attempt_begun, yielded, spun, took, released}
 use Rattle.model.specs.Arena.{serial_remains, header_of, is_poisoned, hold_of, bit_at, owner_at, waiters_at, set_cell, is_free, is_live, is_in, state_at}
 use Rattle.model.specs.Foreign.{Setting, protecting, steps_in, kind_at, place_at, number_at, step_take_of, step_release_of, step_waiters_of, step_health_of, step_of, run_steps_of, boundary_of, flow_of}
 use Rattle.model.specs.Lock.{take_in, take_of, late_stage_of, after_take, second_stage_of, lock_of, outcome_of, find_of, attempt_at, attempt_of, spin_of, pause_of, is_busy, retry_of, run_of, attempt_limit, none_yet, hold_at, give_back_of, Locks, rollback_of, after_key, binding_at, bucket_at, locks_of}
 use Rattle.types.specs.declared.Flow.{Flow}
-use Rattle.types.specs.declared.Found.{Found}
-use Rattle.types.specs.declared.Found.TheVariants as found
 use Rattle.types.specs.declared.Hold.{Hold}
 use Rattle.types.specs.declared.Locked.{Locked}
 use Rattle.types.specs.declared.Outcome.{Outcome}
@@ -181,8 +180,8 @@ module _ (e : Setting) where
       follow {xs = attempt_begun ∷ []} (none_new (omega arith)) (go (find_of e.headers buckets g registry binding bucket))
     where
       go : (x : Found) → Trying r.flow.next (attempt_at x e buckets r t g)
-      go (found.Fault x) = idle (λ l y. no_refused y)
-      go (found.At c) = follow (lock_issues e buckets r.flow t g c) (idle (λ l y. y))
+      go (Err x) = idle (λ l y. no_refused y)
+      go (Ok c) = follow (lock_issues e buckets r.flow t g c) (idle (λ l y. y))
 
   spin_issues : (r : Run) (t g : List ℕ) → Running r.flow.next (spin_of e r t g)
   unfolding spin_of number_of_lem

@@ -4,11 +4,12 @@ use Prim.Native.Nat.{ℕ, zero, suc, ◌+◌, ◌≤◌, ◌<◌}
 use Rattle.std.proofs.Math.Path.{◌≡◌, refl, subst}
 use Rattle.std.proofs.Common.{sym, ap, ◌∙◌, zero-add, arith}
 use mathlib.Core.List.{List, [], ◌∷◌, ◌++◌, append_assoc, append-nil}
-use Rattle.std.specs.Prelude.{◌⊎◌, length, get_or}
+use Rattle.std.specs.Prelude.{◌⊎◌, length, get_or, Ok, Err}
 use Rattle.std.proofs.Math.Logic.{inl, inr}
 use Rattle.std.proofs.Math.Decide.{ℕ_discrete}
 use Rattle.std.proofs.Math.ListN.{length-append, get_or-append}
 use Rattle.std.proofs.Math.Seq.{get_or-append_seam}
+use Rattle.types.specs.Checks.{Found}
 use Rattle.model.specs.Log.{Made, Event, by_caller, attempt_begun, took}
 use Rattle.model.specs.Arena.{hold_in, header_of, hold_of, holds_of, lease_under}
 use Rattle.model.specs.Answers.{refusal_in}
@@ -19,8 +20,6 @@ use Rattle.model.specs.Calls.{given, starting}
 use Rattle.types.specs.declared.Answer.{Answer}
 use Rattle.types.specs.declared.Answer.TheVariants.{Done, Cell, Granted, AllGranted, Busy, Refused, RefusedAt}
 use Rattle.types.specs.declared.Flow.{Flow}
-use Rattle.types.specs.declared.Found.{Found}
-use Rattle.types.specs.declared.Found.TheVariants as found
 use Rattle.types.specs.declared.Head.{Head}
 use Rattle.types.specs.declared.Hold.{Hold}
 use Rattle.types.specs.declared.Lease.{Lease}
@@ -97,8 +96,8 @@ module _ (e : Setting) (buckets : ℕ) (registry : List ℕ) (binding bucket : �
   attempt_so r t g l q = so_behind (attempt_begun ∷ []) (go (find_of e.headers buckets g registry binding bucket) l q)
     where
       go : (x : Found) → TriedSo buckets (attempt_at x e buckets r t g)
-      go (found.Fault x) l q = absurd (no_refused q)
-      go (found.At c) l q =
+      go (Err x) l q = absurd (no_refused q)
+      go (Ok c) l q =
           let m = lock_of e buckets r.flow t g c in
           subst (GrantedSo buckets m.seen.1.1 l) (sym (append-nil m.log)) (lock_so e buckets r.flow t g c l q)
 

@@ -1,7 +1,7 @@
 -- What the caller takes in a log is handed over at its end, or released by the caller later in it. These laws read logs and answers only.
 -- ---- logs
 use Prim.Native.Nat.{ℕ, zero, suc, ◌+◌, ◌-◌, ◌%◌, ◌≤◌}
-use Rattle.std.specs.Prelude.{◌≡◌, refl, ◌&&◌, ◌⊎◌, ltb, eqb, length, take}
+use Rattle.std.specs.Prelude.{◌≡◌, refl, ◌&&◌, ◌⊎◌, ltb, eqb, length, take, Ok, Err}
 use Rattle.std.proofs.Common.{ap, arith, take-suc}
 use Rattle.std.proofs.Math.Path.{subst}
 use mathlib.Core.List.{List, [], ◌∷◌, ◌++◌, append-nil}
@@ -9,13 +9,12 @@ use Rattle.std.proofs.Math.Bool.{true, not}
 use Rattle.std.proofs.Math.Logic.{inl, inr}
 use Rattle.std.proofs.Math.Dec.{leb}
 use Rattle.std.proofs.Math.Seq.{take-length}
+use Rattle.types.specs.Checks.{Found}
 use Rattle.model.specs.Log.{Made, Event, by_caller, by_script, attempt_begun, boundary_run, yielded, spun, step_dropped, took, released, waiters_set, health_set, held_all_lem, added}
 use Rattle.model.specs.Arena.{serial_remains, header_of, is_poisoned, hold_of, bit_at, owner_at, waiters_at, set_cell, is_free, is_live, is_in, state_at}
 use Rattle.model.specs.Foreign.{Setting, protecting, steps_in, kind_at, place_at, number_at, step_take_of, step_release_of, step_waiters_of, step_health_of, step_of, run_steps_of, boundary_of, flow_of}
 use Rattle.model.specs.Lock.{take_in, take_of, late_stage_of, after_take, second_stage_of, lock_of, outcome_of, find_of, attempt_at, attempt_of, spin_of, pause_of, is_busy, retry_of, run_of, attempt_limit, none_yet, no_hold, hold_at, give_back_of, Locks, rollback_of, after_key, binding_at, bucket_at, locks_of}
 use Rattle.types.specs.declared.Flow.{Flow}
-use Rattle.types.specs.declared.Found.{Found}
-use Rattle.types.specs.declared.Found.TheVariants as found
 use Rattle.types.specs.declared.Hold.{Hold}
 use Rattle.types.specs.declared.Locked.{Locked}
 use Rattle.types.specs.declared.Outcome.{Outcome}
@@ -191,8 +190,8 @@ module _ (e : Setting) (buckets : ℕ) where
       (record { settles = none; passes = λ l x. absurd x }))
 
   attempt_at_hands : (x : Found) (r : Run) (t g : List ℕ) → Hands of_tried Nobody (attempt_at x e buckets r t g)
-  attempt_at_hands (found.Fault x) r t g = record { settles = none; passes = λ l x. absurd x }
-  attempt_at_hands (found.At c) r t g =
+  attempt_at_hands (Err x) r t g = record { settles = none; passes = λ l x. absurd x }
+  attempt_at_hands (Ok c) r t g =
       record { settles = join (lock_hands r.flow t g c).settles none (λ l x. inl x); passes = λ l x. absurd x }
 
 module _ (e : Setting) where

@@ -1,10 +1,11 @@
 -- Why it is Busy: what one attempt saw, by a table of its endings, and the reasons read off it.
-use Rattle.std.specs.Prelude.{ℕ, ◌≡◌, Bool, get_or, if◌then◌else◌}
+use Rattle.std.specs.Prelude.{ℕ, ◌≡◌, Bool, get_or, if◌then◌else◌, Ok, Err}
 use Rattle.std.proofs.Math.Path.{refl}
 use Rattle.std.proofs.Common.{sym, ap, ◌∙◌, arith, zero-add}
 use mathlib.Core.List.{List, [], ◌∷◌, ◌++◌, append-nil, append_assoc}
 use Rattle.std.proofs.Math.Bool.{true, false, not}
 use Rattle.std.proofs.Math.Dec.{eqb}
+use Rattle.types.specs.Checks.{Found}
 use borrow.Author.Tests.{eqb-true, eqb-false}
 use Rattle.choice.specs.Pick.{if_both}
 use Rattle.model.specs.Log.{Made, Event, by_caller, attempt_begun, took, released, gives}
@@ -15,8 +16,6 @@ use Rattle.model.specs.Calls.{starting}
 use Rattle.types.specs.declared.Answer.{Answer}
 use Rattle.types.specs.declared.Answer.TheVariants.{Granted, Busy, Refused}
 use Rattle.types.specs.declared.Flow.{Flow}
-use Rattle.types.specs.declared.Found.{Found}
-use Rattle.types.specs.declared.Found.TheVariants as found
 use Rattle.types.specs.declared.Locked.{Locked}
 use Rattle.types.specs.declared.Outcome.TheVariants as outcome
 use Rattle.types.specs.declared.Reason.TheVariants.{Held, Before, After}
@@ -129,8 +128,8 @@ attempt_looks e buckets boot registry binding bucket r t g z =
     go : (x : Found) → FoundAt (cell_of buckets registry binding bucket) x
         → let m = attempt_at x e buckets r t g in
         Looks buckets (cell_of buckets registry binding bucket) (answer_of boot m.seen.0.outcome) m.seen.0.run.boundaries m.log m.seen.0.run.flow.next m.seen.1.0 m.seen.1.1
-    go (found.Fault x) h = unlooked x refl z end
-    go (found.At d) h =
+    go (Err x) h = unlooked x refl z end
+    go (Ok d) h =
         let m = lock_of e buckets r.flow t g d in
         rw (z, zero-add m.seen.0.boundaries, append-nil m.log, ← h) (lock_looks e buckets boot d r.flow t g)
 

@@ -1,9 +1,11 @@
 -- Two writers: a cell that an answer handed over is taken again only behind a release of that lease.
 -- ---- one log: between a live lease and the next take of its cell stands a release of it
-use Rattle.std.specs.Prelude.{ℕ, zero, suc, ◌+◌, ◌<◌, ◌≡◌, refl, List, [], ◌∷◌, ◌++◌, ◌⊎◌, length}
+use Rattle.std.specs.Prelude.{ℕ, zero, suc, ◌+◌, ◌<◌, ◌≡◌, refl, List, [], ◌∷◌, ◌++◌, ◌⊎◌, length, Ok, Err}
 use Rattle.std.proofs.Common.{sym, ap, ◌∙◌, subst, append_assoc, inl, inr, arith}
 use Rattle.std.proofs.Math.Decide.{ℕ_discrete}
 use Rattle.std.proofs.Math.Seq.{take-length}
+use Rattle.types.specs.Checks.{SalvageAnswer}
+use Rattle.types.specs.declared.SalvageRefusal.TheVariants as salvaged
 use Rattle.model.specs.Log.{Made, Actor, Event, by_caller, attempt_begun, boundary_run, yielded, spun, step_dropped, took, released, waiters_set, health_set, held_all_lem, added}
 use Rattle.model.specs.Arena.{hold_of, hold_in, holds_of, set_cell}
 use Rattle.model.specs.Foreign.{Setting, protecting, flow_of}
@@ -20,8 +22,6 @@ use Rattle.types.specs.declared.Outcome.TheVariants as outcome
 use Rattle.types.specs.declared.Reason.{Reason}
 use Rattle.types.specs.declared.Refusal.{Refusal}
 use Rattle.types.specs.declared.Run.{Run}
-use Rattle.types.specs.declared.SalvageAnswer.{SalvageAnswer}
-use Rattle.types.specs.declared.SalvageAnswer.TheVariants as salvaged
 use Rattle.laws.specs.Prepared.{Outcome as Prepared, Came, was_done, was_refused, came}
 use Rattle.history.specs.World.{World, Live, after_event, now, Lawful, Releases, Unreleased, world_of}
 use Rattle.history.specs.Items.{Call, Says, ByKeys, in_order, any_order, try_acquire, drop_lease, read_permission, competing_acquire, release_then_handoff, foreign_release, drop_preserving, acquire_preserving, environment, try_lock, transactional, acquire_bucket, release_all, acquire_locks, acquire_sorted, crew, crew_at_work, perform, Item, call, foreign_step, preparation, prepared_by, preparing, next_item, run, cold, asked, Entry, entry_of, events_of, Course, key_cell, preparation_over, salvage, salvage_over, salvaged_by, salvaging}
@@ -107,9 +107,9 @@ prepared_fair (RefusedAt r p) w v d h s = one_more d _ s (λ l x. absurd (h l x)
 
 -- a salvage that is done begins anew, and one that is not leaves the entries
 salvaged_fair : (a : SalvageAnswer) (w v : World) (d : Course) → KeptWell d → Fair (salvaged_by a w v d).origin (salvaged_by a w v d).entries
-salvaged_fair (salvaged.Done e n) w v d s = tt
-salvaged_fair salvaged.BadShape w v d s = s.fair
-salvaged_fair salvaged.ReportFull w v d s = s.fair
+salvaged_fair (Ok (e, n)) w v d s = tt
+salvaged_fair (Err salvaged.BadShape) w v d s = s.fair
+salvaged_fair (Err salvaged.ReportFull) w v d s = s.fair
 
 hands_none : (headers buckets serial boot : ℕ) (t g : List ℕ) (l : Hold) → HandsOver (preparing headers buckets serial boot t g).0 [] l → ⊥
 unfolding preparing

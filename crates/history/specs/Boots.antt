@@ -5,19 +5,18 @@ use Prim.Native.Nat.{ℕ, zero, suc, ◌+◌, ◌*◌, ◌≤◌, ◌<◌}
 use Rattle.std.proofs.Math.Path.{◌≡◌, refl, ap, subst}
 use Rattle.std.proofs.Common.{sym, ◌∙◌, ltb-true, ltb-false}
 use mathlib.Core.List.{List, [], ◌∷◌, ◌++◌, append-nil}
-use Rattle.std.specs.Prelude.{Bool, ◌⊎◌, ltb, length, take, drop, if◌then◌else◌}
+use Rattle.std.specs.Prelude.{Bool, ◌⊎◌, ltb, length, take, drop, if◌then◌else◌, Ok}
 use Rattle.std.proofs.Math.Bool.{true, false, not}
 use Rattle.std.proofs.Math.Logic.{inl, inr}
 use native.Mathlib.Omega.{arith}
 use Rattle.std.proofs.lemmas.Bool.{not-false}
+use Rattle.types.specs.Checks.{Check}
 use Rattle.model.specs.Log.{Made}
 use Rattle.model.specs.Arena.{cells_of, lease_of, is_stale, hold_in, is_live, lease_live, leases_of}
 use Rattle.model.specs.Refusals.{Rule, refuse◌carrying◌when◌, number_of, refusal_of, first}
 use Rattle.model.specs.Checks.{count_in, stale_boot, bad_shape, bad_held_length, bad_held, not_live, too_many_keys, too_many_leases, bad_cell, not_held, repeated, not_releasable, bad_bindings, cell_rules, lease_rules, held_cell_rules, held_lease_rules, script_rules, lock_rules, bucket_rules, release_rules, locks_rules}
 use Rattle.model.specs.Crew.{bad_lists, bad_turns, plan_rules, crew_rules, crew_at_work_rules}
 use Rattle.types.specs.declared.Answer.TheVariants.{Refused}
-use Rattle.types.specs.declared.Check.{Check}
-use Rattle.types.specs.declared.Check.TheVariants.{Fine, Fault}
 use Rattle.types.specs.declared.Head.{Head}
 use Rattle.types.specs.declared.Hold.{Hold}
 use Rattle.types.specs.declared.Lease.{Lease}
@@ -47,7 +46,7 @@ Below16 = All (λ (r : Refusal). number_of r < 16)
 
 -- a place of the call where a stale lease stands, behind checks that are fine
 abbrev pub Found : World → Call → ℕ → Type 0
-Found w k i = (l : Lease) × (ahead : List Rule) × Placed w k l ahead i × (first ahead ≡ Fine) × (is_stale w.head l ≡ true)
+Found w k i = (l : Lease) × (ahead : List Rule) × Placed w k l ahead i × (first ahead ≡ Ok tt) × (is_stale w.head l ≡ true)
 
 -- the call is given the lease in some place
 abbrev pub Somewhere : World → Call → Lease → Type 0

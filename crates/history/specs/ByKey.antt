@@ -3,12 +3,13 @@
 -- ---- which cell a grant names
 use Prim.Native.Nat.{ℕ, zero, suc, ◌+◌, ◌*◌, ◌<◌}
 use Rattle.std.proofs.Math.Path.{◌≡◌}
-use Rattle.std.specs.Prelude.{refl, leb, length}
+use Rattle.std.specs.Prelude.{refl, leb, length, Ok, Err}
 use Rattle.std.proofs.Common.{sym, ap, ◌∙◌, arith}
 use mathlib.Core.List.{List, [], ◌∷◌, ◌++◌}
 use Rattle.std.proofs.Math.Decide.{ℕ_discrete}
 use Rattle.std.proofs.Math.ListN.{get_or, length-append, get_or-append}
 use Rattle.std.proofs.Math.Seq.{get_or-append_seam}
+use Rattle.types.specs.Checks.{Found}
 use Rattle.model.specs.Log.{Made}
 use Rattle.model.specs.Arena.{is_poisoned, hold_of, holds_of, set_cell, lease_under}
 use Rattle.model.specs.Foreign.{Setting, protecting, flow_of}
@@ -18,9 +19,6 @@ use Rattle.model.specs.Calls.{starting, acquire_of}
 use Rattle.model.specs.Sorted.{cells_sorted, sorted_keys, first_key, asked_first}
 use Rattle.types.specs.declared.Answer.{Answer}
 use Rattle.types.specs.declared.Answer.TheVariants.{Done, Cell, Granted, AllGranted, Busy, Refused, RefusedAt}
-use Rattle.types.specs.declared.Check.TheVariants.{Fault}
-use Rattle.types.specs.declared.Found.{Found}
-use Rattle.types.specs.declared.Found.TheVariants as found
 use Rattle.types.specs.declared.Head.{Head}
 use Rattle.types.specs.declared.Hold.{Hold}
 use Rattle.types.specs.declared.Lease.{Lease}
@@ -48,5 +46,5 @@ Names c o = (l : Hold) → o ≡ outcome.Granted l → l.cell ≡ c
 
 -- the cell that a key was found to name, if it names one
 abbrev pub FoundAt : ℕ → Found → Type 0
-FoundAt c (found.Fault r) = Unit {0}
-FoundAt c (found.At d) = d ≡ c
+FoundAt c (Err r) = Unit {0}
+FoundAt c (Ok d) = d ≡ c

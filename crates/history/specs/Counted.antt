@@ -1,10 +1,11 @@
 -- The counts: what each definition adds to attempts, boundaries, yields and dropped steps is the number of such events in its log.
 use Prim.Native.Nat.{ℕ, zero, suc, ◌+◌, ◌-◌, ◌%◌}
-use Rattle.std.specs.Prelude.{◌≡◌, refl, ◌&&◌, ltb, eqb, length, take}
+use Rattle.std.specs.Prelude.{◌≡◌, refl, ◌&&◌, ltb, eqb, length, take, Ok, Err}
 use mathlib.Core.List.{List, [], ◌∷◌, ◌++◌}
 use Rattle.std.proofs.Math.Bool.{not}
 use Rattle.std.proofs.Common.{arith}
 use Rattle.std.proofs.Math.Dec.{leb}
+use Rattle.types.specs.Checks.{Found}
 use Rattle.model.specs.Log.{Made, Event, attempt_begun, yielded, released, by_caller, note, ◌>>◌}
 use Rattle.model.specs.Arena.{serial_remains, header_of, is_poisoned, bit_at, owner_at, waiters_at, set_cell, state_at, is_free, is_live, is_in, hold_of}
 use Rattle.model.specs.Foreign.{Setting, protecting, steps_in, kind_at, place_at, number_at, flow_of, step_take_of, step_release_of, step_waiters_of, step_health_of, step_of, run_steps_of, boundary_of}
@@ -12,8 +13,6 @@ use Rattle.model.specs.Lock.{take_in, take_of, after_take, late_stage_of, second
 use Rattle.model.specs.Calls.{counts_of}
 use Rattle.types.specs.declared.Counts.{Counts}
 use Rattle.types.specs.declared.Flow.{Flow}
-use Rattle.types.specs.declared.Found.{Found}
-use Rattle.types.specs.declared.Found.TheVariants as found
 use Rattle.types.specs.declared.Hold.{Hold}
 use Rattle.types.specs.declared.Locked.{Locked}
 use Rattle.types.specs.declared.Outcome.{Outcome}
@@ -161,8 +160,8 @@ module _ (e : Setting) where
       begun = counts_of (r.attempts + 1) (r.boundaries + 0) r.yields r.flow.dropped
 
       go : (x : Found) → TriesCounted r (note attempt_begun >> attempt_at x e buckets r t g)
-      go (found.Fault x) = omega arith
-      go (found.At c) =
+      go (Err x) = omega arith
+      go (Ok c) =
           then_counted {q = counts_of (r.attempts + 1) (r.boundaries + 0) r.yields r.flow.dropped} {xs = attempt_begun ∷ []} (omega arith)
           (then_counted (lock_counted (r.attempts + 1) r.boundaries r.yields e buckets r.flow t g c) (none_counted _))
 

@@ -21,7 +21,6 @@ use Rattle.types.specs.declared.Reason.TheVariants as reason
 use Rattle.types.specs.declared.Lease.{Lease}
 use Rattle.types.specs.declared.Refusal.{Refusal}
 use Rattle.types.specs.declared.Refusal.TheVariants.{StaleBoot, Poisoned, InvalidBucket, NotHeld, BadCrew, Damaged, BadShape}
-use Rattle.types.specs.declared.SalvageAnswer.TheVariants as salvaged
 use Rattle.history.specs.World.{World, world_of, Live, Healthy, now, Sound, Spent, Unreleased, number_of_lem, takes}
 use Rattle.history.specs.Items.{Call, Says, salvage, salvaging, acquire_bucket, try_lock, drop_lease, competing_acquire, drop_preserving, release_all, acquire_locks, environment, try_acquire, perform, foreign, Item, call, foreign_step, preparation, Course, course_of, cold, next_item, run, preparing, held_of, Entry, noted, preparation_over, entry_of, events_of, history_of, saying, says}
 use Rattle.history.specs.Statements.{drops_beside, to_release, Placed, alone, beside, listed, Begins, Fresh, Ledger, other_runs, answers, leaves, log_of, HandsOver, RolledBack, buffer_in, Fails}

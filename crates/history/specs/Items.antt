@@ -1,5 +1,7 @@
 -- What a history is made of: calls of document 01 with any arguments, lone foreign steps, preparations, and document 02's salvages.
-use Rattle.std.specs.Prelude.{ℕ, ◌≡◌, List, [], ◌∷◌, ◌++◌, false, ◌⊎◌, get_or}
+use Rattle.std.specs.Prelude.{ℕ, ◌≡◌, List, [], ◌∷◌, ◌++◌, false, ◌⊎◌, get_or, Ok, Err}
+use Rattle.types.specs.Checks.{SalvageAnswer}
+use Rattle.types.specs.declared.SalvageRefusal.TheVariants as salvaged
 use Rattle.model.specs.Log.{Made, Event, gives, ◌>>=◌, ◌>>◌}
 use Rattle.model.specs.Arena.{cell_number, spent_to, hold_in, leases_of, holds_of}
 use Rattle.model.specs.Refusals.{Rule}
@@ -17,8 +19,6 @@ use Rattle.types.specs.declared.Head.{Head}
 use Rattle.types.specs.declared.Hold.{Hold}
 use Rattle.types.specs.declared.Lease.{Lease}
 use Rattle.types.specs.declared.Refusal.{Refusal}
-use Rattle.types.specs.declared.SalvageAnswer.{SalvageAnswer}
-use Rattle.types.specs.declared.SalvageAnswer.TheVariants as salvaged
 use Rattle.history.specs.World.{World, world_of}
 
 -- a call without its head, table and health: these are what the last item left
@@ -431,9 +431,9 @@ salvaging paper t g report list =
 
 -- done: a new stretch begins in the salvaged world; refused: the stretch goes on in the world that stays, and nothing is noted
 abbrev pub salvaged_by : SalvageAnswer → (rescued stays : World) → Course → Course
-salvaged_by (salvaged.Done e n) w v k = cold w
-salvaged_by salvaged.BadShape w v k = course_of k.origin k.entries v
-salvaged_by salvaged.ReportFull w v k = course_of k.origin k.entries v
+salvaged_by (Ok (e, n)) w v k = cold w
+salvaged_by (Err salvaged.BadShape) w v k = course_of k.origin k.entries v
+salvaged_by (Err salvaged.ReportFull) w v k = course_of k.origin k.entries v
 
 -- refused, "the head before it stays the one in force": over the arena's own runs, with these as the preparation hands them back; other runs
 -- leave the arena alone. A refused salvage the same

@@ -1,8 +1,9 @@
 -- How a call goes: if a check applies it is refused and nothing changes, else its steps are made. What holds of both holds of the call.
-use Rattle.std.specs.Prelude.{ℕ, ◌≡◌, refl, Bool, true, false, length, if◌then◌else◌}
+use Rattle.std.specs.Prelude.{ℕ, ◌≡◌, refl, Bool, true, false, length, if◌then◌else◌, Ok, Err}
 use Rattle.std.proofs.Common.{sym, ap, ◌∙◌, arith}
 use Rattle.std.proofs.Math.Path.{subst}
 use mathlib.Core.List.{List, [], ◌∷◌, ◌++◌, append-nil}
+use Rattle.types.specs.Checks.{Check, KeyCheck}
 use Rattle.model.specs.Log.{Made, by_caller, attempt_begun, released, gives, note, ◌>>=◌, ◌>>◌}
 use Rattle.model.specs.Arena.{spent_to, set_cell, holds_of}
 use Rattle.model.specs.Refusals.{Rule, refusal_of, first, judge}
@@ -13,11 +14,7 @@ use Rattle.model.specs.Calls.{counts_of, given, starting, replied, script_reply,
 use Rattle.model.specs.Sorted.{cells_asked, cells_sorted, sorted_keys, first_key, judge_at, refused_key_at_once, asked_first, handed_back, sorted_locks_of, acquire_sorted_of}
 use Rattle.model.specs.Crew.{Work, rests, adds, crew_start, turns_of, shift_of, crew_of, crew_at_work_of}
 use Rattle.types.specs.declared.Answer.TheVariants as answer
-use Rattle.types.specs.declared.Check.{Check}
-use Rattle.types.specs.declared.Check.TheVariants.{Fine, Fault}
 use Rattle.types.specs.declared.CrewReply.{CrewReply}
-use Rattle.types.specs.declared.KeyCheck.{KeyCheck}
-use Rattle.types.specs.declared.KeyCheck.TheVariants as key
 use Rattle.types.specs.declared.ScriptReply.{ScriptReply}
 use Rattle.types.specs.declared.Refusal.{Refusal}
 use Rattle.types.specs.declared.Reply.{Reply}
@@ -26,16 +23,16 @@ use Rattle.history.specs.Items.{Call, Says, says, try_acquire, drop_lease, read_
 
 -- ---- checks that found nothing
 
-pub clear : (rs : List Rule) → first rs ≡ Fine → Clear rs
+pub clear : (rs : List Rule) → first rs ≡ Ok tt → Clear rs
 unfolding first
 clear [] e = tt
 clear (r ∷ rs) e = go r.applies refl e (clear rs)
   where
-    go : (b : Bool) → r.applies ≡ b → (if b then Fault (refusal_of r.number r.carries) else first rs) ≡ Fine → (first rs ≡ Fine → Clear rs) → Clear (r ∷ rs)
+    go : (b : Bool) → r.applies ≡ b → (if b then Err (refusal_of r.number r.carries) else first rs) ≡ Ok tt → (first rs ≡ Ok tt → Clear rs) → Clear (r ∷ rs)
     go true a e k = let z : ◌≡◌ {A = ℕ} 0 1 = cc in absurd (omega arith)
     go false a e k = (a, k e)
 
-pub clear_fine : (rs : List Rule) → Clear rs → first rs ≡ Fine
+pub clear_fine : (rs : List Rule) → Clear rs → first rs ≡ Ok tt
 unfolding first
 clear_fine [] c = refl
 clear_fine (r ∷ rs) c = rw c.0 (clear_fine rs c.1)
@@ -54,12 +51,12 @@ clear_back (x ∷ xs) ys c = clear_back xs ys c.1
 
 -- a call that is refused, by the first rule that applies, or whose checks found nothing
 judged_by : {A : Type 0} (P : A → Type 0) (rules : List Rule) {refused : Refusal → A} {past_checks : A}
-    → ((r : Refusal) → first rules ≡ Fault r → P (refused r)) → (Clear rules → P past_checks) → P (judge (first rules) refused past_checks)
+    → ((r : Refusal) → first rules ≡ Err r → P (refused r)) → (Clear rules → P past_checks) → P (judge (first rules) refused past_checks)
 judged_by P rules {refused} {past_checks} r s = go (first rules) refl
   where
     go : (k : Check) → first rules ≡ k → P (judge k refused past_checks)
-    go Fine e = s (clear rules e)
-    go (Fault x) e = r x e
+    go (Ok tt) e = s (clear rules e)
+    go (Err x) e = r x e
 
 pub judged : {A : Type 0} (P : A → Type 0) (rules : List Rule) {refused : Refusal → A} {past_checks : A}
     → ((r : Refusal) → P (refused r)) → (Clear rules → P past_checks) → P (judge (first rules) refused past_checks)
@@ -67,9 +64,9 @@ judged P rules r s = judged_by P rules (λ x _. r x) s
 
 -- the same of the sorted call, whose keys' headers and buckets are tested by position behind
 pub judged_at : {A : Type 0} (P : A → Type 0) (k : KeyCheck) {refused : Refusal → ℕ → A} {past_checks : A}
-    → ((r : Refusal) (p : ℕ) → k ≡ key.FaultAt r p → P (refused r p)) → (k ≡ key.Fine → P past_checks) → P (judge_at k refused past_checks)
-judged_at P key.Fine r s = s refl
-judged_at P (key.FaultAt x p) r s = r x p refl
+    → ((r : Refusal) (p : ℕ) → k ≡ Err (r, p) → P (refused r p)) → (k ≡ Ok tt → P past_checks) → P (judge_at k refused past_checks)
+judged_at P (Ok tt) r s = s refl
+judged_at P (Err (x, p)) r s = r x p refl
 
 -- ---- the parts of a call
 
@@ -169,15 +166,15 @@ sorted_steps : (w : World) (registry script : List ℕ) (place : ℕ) (held keys
     → (judge_at k (λ r p. gives (refused_key_at_once w.head place r p, (w.table, (w.health, grants)))) (sorted_locks_of w.head w.table w.health registry script place held keys grants) >>= λ a. gives (grant a))
     ≡ judge_at k (unchanged_at w (acquire_sorted registry script place held keys grants)) (seen_as (as_asked w registry keys) (sorted_locks w registry script place held keys grants))
 unfolding sorted_locks_of
-sorted_steps w registry script place held keys grants key.Fine = simp append-nil
-sorted_steps w registry script place held keys grants (key.FaultAt r p) = refl
+sorted_steps w registry script place held keys grants (Ok tt) = simp append-nil
+sorted_steps w registry script place held keys grants (Err (r, p)) = refl
 
 -- what holds of the call as it was and of its steps
 module _ (P : Made (World × Says) → Type 0) (w : World) where
   abbrev By : {A : Type 0} → (A → World × Says) → Made A → Type 0
   By f m = P (m >>= λ a. gives (f a))
 
-  pub performed_by : (k : Call) → ((r : Refusal) → first (rules w k) ≡ Fault r → P (unchanged w k r)) → (Clear (rules w k) → P (past_checks w k)) → P (perform w k)
+  pub performed_by : (k : Call) → ((r : Refusal) → first (rules w k) ≡ Err r → P (unchanged w k r)) → (Clear (rules w k) → P (past_checks w k)) → P (perform w k)
   unfolding perform try_acquire_of drop_lease_of read_permission_of competing_acquire_of release_then_handoff_of foreign_release_of acquire_preserving_of drop_preserving_of
       environment_of try_lock_of transactional_of acquire_bucket_of release_all_of acquire_locks_of acquire_sorted_of shift_of crew_of crew_at_work_of
   performed_by (try_acquire c) x y = judged_by (By (reply w)) (rules w (try_acquire c)) x (λ fine. rw append-nil (y fine))
@@ -207,12 +204,12 @@ module _ (P : Made (World × Says) → Type 0) (w : World) where
   performed k x y = performed_by k (λ r _. x r) y
 
 -- a call is refused by the first rule that applies, or is its steps
-pub refused_so : (w : World) (k : Call) (r : Refusal) → first (rules w k) ≡ Fault r → perform w k ≡ unchanged w k r
+pub refused_so : (w : World) (k : Call) (r : Refusal) → first (rules w k) ≡ Err r → perform w k ≡ unchanged w k r
 refused_so w k r e =
-    performed_by (λ m. m ≡ unchanged w k r) w k (λ x f. let g : Fault x ≡ Fault r = sym f ∙ e in let i : x ≡ r = cc in ap (unchanged w k) i)
-    (λ c. let g : Fine ≡ Fault r = sym (clear_fine (rules w k) c) ∙ e in let z : ◌≡◌ {A = ℕ} 0 1 = cc in absurd (omega arith))
+    performed_by (λ m. m ≡ unchanged w k r) w k (λ x f. let g : Err x ≡ Err r = sym f ∙ e in let i : x ≡ r = cc in ap (unchanged w k) i)
+    (λ c. let g : (Ok tt) ≡ Err r = sym (clear_fine (rules w k) c) ∙ e in let z : ◌≡◌ {A = ℕ} 0 1 = cc in absurd (omega arith))
 
 pub made_so : (w : World) (k : Call) → Clear (rules w k) → perform w k ≡ past_checks w k
 made_so w k c =
     performed_by (λ m. m ≡ past_checks w k) w k
-    (λ x f. let g : Fine ≡ Fault x = sym (clear_fine (rules w k) c) ∙ f in let z : ◌≡◌ {A = ℕ} 0 1 = cc in absurd (omega arith)) (λ _. refl)
+    (λ x f. let g : (Ok tt) ≡ Err x = sym (clear_fine (rules w k) c) ∙ f in let z : ◌≡◌ {A = ℕ} 0 1 = cc in absurd (omega arith)) (λ _. refl)

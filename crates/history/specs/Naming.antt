@@ -1,15 +1,14 @@
 -- Every release is named: a script's by one of its steps, a caller's by a lease that the call was given, or that it took before in the same log.
 use Prim.Native.Nat.{ℕ, zero, suc, ◌+◌, ◌-◌, ◌%◌, ◌≤◌, ◌<◌}
-use Rattle.std.specs.Prelude.{◌≡◌, refl, not, ◌&&◌, ◌⊎◌, ltb, leb, eqb, length, take}
+use Rattle.std.specs.Prelude.{◌≡◌, refl, not, ◌&&◌, ◌⊎◌, ltb, leb, eqb, length, take, Ok, Err}
 use mathlib.Core.List.{List, [], ◌∷◌, ◌++◌, append-nil}
 use Rattle.std.proofs.Common.{inl, inr, arith, eqb-true}
+use Rattle.types.specs.Checks.{Found}
 use Rattle.model.specs.Log.{Made, Event, by_caller, by_script, attempt_begun, boundary_run, yielded, spun, step_dropped, took, released, waiters_set, health_set, held_all_lem, added}
 use Rattle.model.specs.Arena.{serial_remains, header_of, is_poisoned, bit_at, owner_at, waiters_at, set_cell, state_at, is_free, is_live, is_in, hold_of}
 use Rattle.model.specs.Foreign.{Setting, protecting, steps_in, kind_at, place_at, number_at, flow_of, step_take_of, step_release_of, step_waiters_of, step_health_of, step_of, run_steps_of, boundary_of}
 use Rattle.model.specs.Lock.{take_in, take_of, after_take, late_stage_of, second_stage_of, lock_of, outcome_of, run_of, find_of, attempt_at, attempt_of, spin_of, pause_of, is_busy, retry_of, hold_at, give_back_of, rollback_of, after_key, binding_at, bucket_at, attempt_limit, none_yet, Locks, locks_of}
 use Rattle.types.specs.declared.Flow.{Flow}
-use Rattle.types.specs.declared.Found.{Found}
-use Rattle.types.specs.declared.Found.TheVariants as found
 use Rattle.types.specs.declared.Hold.{Hold}
 use Rattle.types.specs.declared.Locked.{Locked}
 use Rattle.types.specs.declared.Outcome.{Outcome}
@@ -224,8 +223,8 @@ module _ (e : Setting) (low : ℕ) where
   attempt_accounted buckets registry binding bucket r t g A b = more tt (go (find_of e.headers buckets g registry binding bucket) (and_took A attempt_begun))
     where
       go : (x : Found) (B : Leases) → Trying e.script low B (attempt_at x e buckets r t g)
-      go (found.Fault x) B = none (tt, b)
-      go (found.At c) B = andthen (lock_accounted e buckets low r.flow t g c B b) (λ C i h. none h)
+      go (Err x) B = none (tt, b)
+      go (Ok c) B = andthen (lock_accounted e buckets low r.flow t g c B b) (λ C i h. none h)
 
   spin_accounted : (r : Run) (t g : List ℕ) (A : Leases) → low ≤ r.flow.place → Running e.script low A (spin_of e r t g)
   unfolding spin_of

@@ -9,13 +9,12 @@ use Rattle.std.proofs.Math.Bool.{true, not}
 use Rattle.std.proofs.Math.Logic.{inl, inr}
 use Rattle.std.proofs.Math.Dec.{leb}
 use Rattle.std.proofs.Math.Seq.{take-length}
+use Rattle.types.specs.Checks.{Found}
 use Rattle.model.specs.Log.{Made, Event, by_caller, by_script, attempt_begun, boundary_run, yielded, spun, step_dropped, took, released, waiters_set, health_set, held_all_lem, added}
 use Rattle.model.specs.Arena.{serial_remains, header_of, is_poisoned, hold_of, bit_at, owner_at, waiters_at, set_cell, is_free, is_live, is_in, state_at}
 use Rattle.model.specs.Foreign.{Setting, protecting, steps_in, kind_at, place_at, number_at, step_take_of, step_release_of, step_waiters_of, step_health_of, step_of, run_steps_of, boundary_of, flow_of}
 use Rattle.model.specs.Lock.{take_in, take_of, late_stage_of, after_take, second_stage_of, lock_of, outcome_of, find_of, attempt_at, attempt_of, spin_of, pause_of, is_busy, retry_of, run_of, attempt_limit, none_yet, no_hold, hold_at, give_back_of, Locks, rollback_of, after_key, binding_at, bucket_at, locks_of}
 use Rattle.types.specs.declared.Flow.{Flow}
-use Rattle.types.specs.declared.Found.{Found}
-use Rattle.types.specs.declared.Found.TheVariants as found
 use Rattle.types.specs.declared.Hold.{Hold}
 use Rattle.types.specs.declared.Locked.{Locked}
 use Rattle.types.specs.declared.Outcome.{Outcome}

@@ -1,9 +1,10 @@
 -- Refusals 1 to 5, 8 by cell, 12 to 16 come from a call's checks alone, and these change nothing: its steps refuse with 9 or 10, by key with 6 to 11.
 use Prim.Native.Nat.{ℕ, zero, suc, ◌+◌, ◌≤◌}
-use Rattle.std.specs.Prelude.{◌≡◌, ◌⊎◌, leb, length}
+use Rattle.std.specs.Prelude.{◌≡◌, ◌⊎◌, leb, length, Ok, Err}
 use Rattle.std.proofs.Common.{ap, inl, inr, arith}
 use mathlib.Core.List.{List, [], ◌∷◌, ◌++◌}
 use Rattle.std.proofs.Math.ListN.{get_or}
+use Rattle.types.specs.Checks.{Found}
 use Rattle.model.specs.Log.{Made}
 use Rattle.model.specs.Arena.{is_poisoned, set_cell}
 use Rattle.model.specs.Refusals.{number_of}
@@ -16,8 +17,6 @@ use Rattle.model.specs.Sorted.{cells_asked, cells_sorted, sorted_keys, first_key
 use Rattle.types.specs.declared.Answer.{Answer}
 use Rattle.types.specs.declared.Answer.TheVariants as answer
 use Rattle.types.specs.declared.CrewReply.{CrewReply}
-use Rattle.types.specs.declared.Found.{Found}
-use Rattle.types.specs.declared.Found.TheVariants as found
 use Rattle.types.specs.declared.Head.{Head}
 use Rattle.types.specs.declared.Hold.{Hold}
 use Rattle.types.specs.declared.Outcome.{Outcome}
@@ -83,8 +82,8 @@ acquire_late n h t c = let x = (take_of h.next t c).seen.0.answer in answer_late
 
 -- by key
 abbrev OfFound : Found → Type 0
-OfFound (found.Fault r) = Late r
-OfFound (found.At c) = Unit {0}
+OfFound (Err r) = Late r
+OfFound (Ok c) = Unit {0}
 
 of_late : (o : Outcome) → OfOutcome LateByCell o → OfOutcome Late o
 of_late (outcome.Granted l) h = tt
@@ -101,8 +100,8 @@ module _ (e : Setting) (buckets : ℕ) (registry : List ℕ) (binding bucket : �
       (if_both OfFound (is_poisoned g header) (omega arith) (if_both OfFound (leb buckets bucket) (omega arith) tt)))
     where
       go : (x : Found) → OfFound x → OfOutcome Late (attempt_at x e buckets r t g).seen.0.outcome
-      go (found.Fault x) h = h
-      go (found.At c) h = of_late (lock_of e buckets r.flow t g c).seen.0.answer (lock_late (lock_comes e buckets c r.flow t g))
+      go (Err x) h = h
+      go (Ok c) h = of_late (lock_of e buckets r.flow t g c).seen.0.answer (lock_late (lock_comes e buckets c r.flow t g))
 
   retry_late : (left i : ℕ) (last : Reason) (r : Run) (t g : List ℕ) → OfOutcome Late (retry_of left i last e buckets registry binding bucket r t g).seen.0.outcome
   unfolding retry_of

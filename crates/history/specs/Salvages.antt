@@ -1,15 +1,15 @@
 -- A salvage (document 02, L6) as the start of a history: what comes of it, by cases, and that one that is done leaves a whole arena.
-use Rattle.std.specs.Prelude.{ℕ, ◌+◌, ◌*◌, ◌≤◌, ◌<◌, ◌≡◌, List, Bool, ◌&&◌, ◌⊎◌, length}
+use Rattle.std.specs.Prelude.{ℕ, ◌+◌, ◌*◌, ◌≤◌, ◌<◌, ◌≡◌, List, Bool, ◌&&◌, ◌⊎◌, length, Err}
 use Rattle.std.proofs.Math.Path.{refl}
 use Rattle.std.proofs.Common.{sym, ◌∙◌, arith}
 use Rattle.std.proofs.Math.Bool.{true, false}
 use Rattle.std.proofs.Math.Logic.{inl, inr}
+use Rattle.types.specs.declared.SalvageRefusal.TheVariants.{BadShape, ReportFull}
 use Rattle.model.specs.Arena.{cells_of, bit_at, owner_at, state_of, state_at, shape_fits, health_fits}
 use Rattle.model.specs.Refusals.{first}
 use Rattle.model.specs.Checks.{prepare_rules}
 use Rattle.model.specs.Salvage.{kept_in, kept_of, mended_table, mended_health, is_report_full, salvaged_of, unsalvaged, go_over_of, salvage_of}
 use Rattle.types.specs.declared.Head.{Head}
-use Rattle.types.specs.declared.SalvageAnswer.TheVariants.{BadShape, ReportFull}
 use Rattle.types.specs.declared.State.{State}
 use Rattle.types.specs.declared.State.TheVariants as state
 use Rattle.laws.specs.Shape.{Shaped}
@@ -26,8 +26,8 @@ module _ (h : Head) (t g report list : List ℕ) where
   fits = shape_fits h (length t) && health_fits h (length g)
 
   pub data Came : Type 0 where
-    bad : fits ≡ false → salvage_of h t g report list ≡ unsalvaged h t g report list BadShape → Came
-    full : fits ≡ true → is_report_full h t g report list ≡ true → salvage_of h t g report list ≡ unsalvaged h t g report list ReportFull → Came
+    bad : fits ≡ false → salvage_of h t g report list ≡ unsalvaged h t g report list (Err BadShape) → Came
+    full : fits ≡ true → is_report_full h t g report list ≡ true → salvage_of h t g report list ≡ unsalvaged h t g report list (Err ReportFull) → Came
     done : fits ≡ true → is_report_full h t g report list ≡ false → salvage_of h t g report list ≡ salvaged_of h t g report list → Came
 
   pub came : Came

@@ -1,7 +1,7 @@
 -- What demand 2 says, as statements: of a history, and of one call. `World` and `Items` have the words they are made of, `Theorems` gives
 -- their proofs by name. What stands in quotes is of the work order or of document 01 or 02. A statement about one call is one of any build, any
 -- function that answers calls: `Theorems` proves it of ours, `perform`, and crate `pinned` carries it to any build that does what is asked of each call.
-use Rattle.std.specs.Prelude.{ℕ, ◌+◌, ◌*◌, ◌≤◌, ◌<◌, ◌≡◌, List, [], ◌∷◌, ◌++◌, reverse, true, ◌⊎◌, ◌↔◌, length, take, replicate}
+use Rattle.std.specs.Prelude.{ℕ, ◌+◌, ◌*◌, ◌≤◌, ◌<◌, ◌≡◌, List, [], ◌∷◌, ◌++◌, reverse, true, ◌⊎◌, ◌↔◌, length, take, replicate, Ok}
 use Rattle.model.specs.Log.{Made, Actor, Event, by_caller, by_script, took, released}
 use Rattle.model.specs.Arena.{head_of, is_stale, lease_live, hold_of, hold_in, leases_of, holds_of, is_in}
 use Rattle.model.specs.Refusals.{Rule, number_of, first}
@@ -18,11 +18,9 @@ use Rattle.types.specs.declared.Hold.{Hold}
 use Rattle.types.specs.declared.Lease.{Lease}
 use Rattle.types.specs.declared.Refusal.{Refusal}
 use Rattle.types.specs.declared.Refusal.TheVariants.{StaleBoot}
-use Rattle.types.specs.declared.Check.TheVariants.{Fine}
 use Rattle.laws.specs.Checks.{lease_in}
 use Rattle.history.specs.World.{World, world_of, cells, Live, now, Lawful, Sound, Spent, Unreleased, caller_releases, bits, number_of_lem, attempts, boundaries, yields, drops, takes, releases, Whole, Apart}
 use Rattle.history.specs.Items.{Call, try_acquire, drop_lease, read_permission, competing_acquire, release_then_handoff, foreign_release, drop_preserving, acquire_preserving, environment, try_lock, transactional, acquire_bucket, release_all, acquire_locks, acquire_sorted, crew, crew_at_work, NamesLease, ByKeys, script_of, place_of, held_of, given_up, buffer, ByCell, IsCrew, asked, key_cell, Says, unchanged, saying, perform, Build, Stepper, Item, preparation, Course, cold, noted, history_of, preparing, next_item, run, call, foreign_step, preparation_over, salvage, salvage_over, salvaging}
-use Rattle.types.specs.declared.SalvageAnswer.TheVariants as salvaged
 
 -- ---- where a stretch of a history begins: "Demand 2 now starts from a prepared or a salvaged table."
 
@@ -32,8 +30,8 @@ Begins w (call c) = ⊥
 Begins w (foreign_step kind place number) = ⊥
 Begins w (preparation headers buckets serial boot) = (preparing headers buckets serial boot w.table w.health).0 ≡ Done
 Begins w (preparation_over headers buckets serial boot t g) = (preparing headers buckets serial boot t g).0 ≡ Done
-Begins w (salvage paper report list) = (e n : ℕ) × ((salvaging paper w.table w.health report list).0 ≡ salvaged.Done e n)
-Begins w (salvage_over paper t g report list) = (e n : ℕ) × ((salvaging paper t g report list).0 ≡ salvaged.Done e n)
+Begins w (salvage paper report list) = (e n : ℕ) × ((salvaging paper w.table w.health report list).0 ≡ Ok (e, n))
+Begins w (salvage_over paper t g report list) = (e n : ℕ) × ((salvaging paper t g report list).0 ≡ Ok (e, n))
 
 -- "Preparing .. sets every table word and health byte to 0."
 abbrev pub Fresh : World → Type 0
@@ -47,7 +45,7 @@ rescued h t g report list = let o = salvage_of h t g report list in world_of h o
 pub data Begun (w : World) : Type 0 where
   by_preparation : Fresh w → Begun w
   by_salvage : (h : Head) (t g report list : List ℕ) (e n : ℕ)
-      → (salvage_of h t g report list).0.answer ≡ salvaged.Done e n → w ≡ rescued h t g report list → Begun w
+      → (salvage_of h t g report list).0.answer ≡ Ok (e, n) → w ≡ rescued h t g report list → Begun w
 
 -- no item of these is a start
 abbrev pub NoStart : Course → List Item → Type 0
@@ -442,4 +440,4 @@ abbrev pub StaleIs16 : Build → Type 0
 StaleIs16 f =
     (w : World) (k : Call) (i : ℕ)
     → (answer_in (f w k) ≡ Refused (StaleBoot i))
-    ↔ ((l : Lease) × (ahead : List Rule) × Placed w k l ahead i × (first ahead ≡ Fine) × (is_stale w.head l ≡ true))
+    ↔ ((l : Lease) × (ahead : List Rule) × Placed w k l ahead i × (first ahead ≡ Ok tt) × (is_stale w.head l ≡ true))

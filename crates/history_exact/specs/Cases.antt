@@ -1,6 +1,6 @@
 -- Document 01's bench cases with an empty script, read off the theorems, the long ones too: no attempt is computed. "Arena: H 2, B 4, registry
 -- 0, 1, 1, first serial 1, empty script unless said."; the boot number is 5.
-use Rattle.std.specs.Prelude.{ℕ, zero, suc, ◌<◌, ◌*◌, ◌+◌, ◌≡◌, refl, List, [], ◌∷◌, replicate}
+use Rattle.std.specs.Prelude.{ℕ, zero, suc, ◌<◌, ◌*◌, ◌+◌, ◌≡◌, refl, List, [], ◌∷◌, replicate, Ok}
 use Rattle.std.proofs.Common.{subst, arith}
 use Rattle.model.specs.Log.{by_caller, took}
 use Rattle.model.specs.Arena.{last_serial, head_of, lease_of, leases_of, holds_of, bit_at, owner_at, waiters_at, set_cell, set_waiters, is_free, is_held, state_of, state_at, is_live, head_fits, shape_fits, health_fits, registry_fits}
@@ -9,7 +9,6 @@ use Rattle.model.specs.Lock.{binding_at, bucket_at}
 use Rattle.model.specs.Checks.{not_live, bad_bindings, bucket_rules, locks_rules}
 use Rattle.model.specs.Calls.{counts_of}
 use Rattle.types.specs.declared.Answer.TheVariants.{Granted, Refused, RefusedAt}
-use Rattle.types.specs.declared.Check.TheVariants.{Fine}
 use Rattle.types.specs.declared.Reason.TheVariants as reason
 use Rattle.types.specs.declared.Refusal.TheVariants.{SerialsSpent, SerializationFailure}
 use Rattle.history.specs.World.{World, world_of, after_event}
@@ -64,7 +63,7 @@ arena next table = world_of (head_of 2 4 next 5) table (replicate 2 0)
 abbrev key : ℕ → List ℕ → Call
 key bucket held = acquire_bucket registry [] 0 held 0 bucket
 
-pub passes : (w : World) (k : Call) → first (rules w k) ≡ Fine → Passes w k
+pub passes : (w : World) (k : Call) → first (rules w k) ≡ Ok tt → Passes w k
 passes w k = clear (rules w k)
 
 -- *"Key (0,2): cell 2, serial 1, next 2, attempts 1, boundaries 3."*

@@ -1,6 +1,6 @@
 -- Each definition of the model, from a boundary to multi-lock, uses up its script as `Consumed` says.
 use Prim.Native.Nat.{ℕ, zero, suc, ◌+◌, ◌-◌, ◌%◌, ◌≤◌, ◌<◌}
-use Rattle.std.specs.Prelude.{◌≡◌, refl, true, eqb, length}
+use Rattle.std.specs.Prelude.{◌≡◌, refl, true, eqb, length, Ok, Err}
 use Rattle.std.proofs.Math.Path.{subst}
 use mathlib.Core.List.{List, [], ◌∷◌, ◌++◌, append-nil, append_assoc}
 use native.Mathlib.Omega.{arith}
@@ -8,6 +8,7 @@ use Rattle.std.proofs.Math.ListN.{take}
 use Rattle.std.proofs.Common.{take-suc, eqb-true}
 use Rattle.std.proofs.Math.Seq.{take-length}
 use Rattle.std.proofs.lemmas.Bool.{eqb-false}
+use Rattle.types.specs.Checks.{Found}
 use Rattle.model.specs.Log.{Made, Event, boundary_run}
 use Rattle.model.specs.Arena.{serial_remains, header_of, is_poisoned, hold_of, hold_in, holds_of, waiters_at, set_cell, state_at}
 use Rattle.model.specs.Foreign.{steps_in, kind_at, place_at, number_at, flow_of, step_of, run_steps_of, boundary_of}
@@ -16,8 +17,6 @@ use Rattle.model.specs.Calls.{given}
 use Rattle.types.specs.declared.Answer.{Answer}
 use Rattle.types.specs.declared.Answer.TheVariants.{Done, Cell, Granted, AllGranted, Busy, Refused, RefusedAt}
 use Rattle.types.specs.declared.Flow.{Flow}
-use Rattle.types.specs.declared.Found.{Found}
-use Rattle.types.specs.declared.Found.TheVariants as found
 use Rattle.types.specs.declared.Head.{Head}
 use Rattle.types.specs.declared.Hold.{Hold}
 use Rattle.types.specs.declared.Locked.{Locked}
@@ -149,8 +148,8 @@ module _ (h : Head) (script : List ℕ) where
   Trying ps r t g m = Goes ps r.flow t g (held_after ps m.seen.0.outcome) m.seen.0.run.flow (of_tried h m.seen) m.log
 
   at_consumed : (ps : List Hold) (buckets : ℕ) (x : Found) (r : Run) (t g : List ℕ) → Trying ps r t g (attempt_at x (given h script ps) buckets r t g)
-  at_consumed ps buckets (found.Fault x) r t g = at_rest
-  at_consumed ps buckets (found.At c) r t g = follow (lock_consumed ps buckets r.flow t g c) at_rest
+  at_consumed ps buckets (Err x) r t g = at_rest
+  at_consumed ps buckets (Ok c) r t g = follow (lock_consumed ps buckets r.flow t g c) at_rest
 
   pub attempt_consumed : (ps : List Hold) (buckets : ℕ) (registry : List ℕ) (binding bucket : ℕ) (r : Run) (t g : List ℕ)
       → Trying ps r t g (attempt_of (given h script ps) buckets registry binding bucket r t g)

@@ -1,17 +1,16 @@
 -- A definition of the model never reads what it counts: begun with other counts, it does the same and adds to them.
 use Prim.Native.Nat.{ℕ, zero, suc, ◌+◌, ◌-◌, ◌%◌}
-use Rattle.std.specs.Prelude.{◌≡◌, Bool, true, false, eqb, length, take, if◌then◌else◌}
+use Rattle.std.specs.Prelude.{◌≡◌, Bool, true, false, eqb, length, take, if◌then◌else◌, Ok, Err}
 use Rattle.std.proofs.Math.Path.{refl, ap}
 use mathlib.Core.List.{List, [], ◌∷◌, ◌++◌}
 use Rattle.std.proofs.Common.{add-zero, arith}
+use Rattle.types.specs.Checks.{Found}
 use Rattle.model.specs.Log.{Made, Event, by_caller, attempt_begun, yielded, released}
 use Rattle.model.specs.Arena.{header_of, is_poisoned, hold_of, set_cell, waiters_at}
 use Rattle.model.specs.Foreign.{Setting, protecting, steps_in, kind_at, place_at, number_at, flow_of, step_of, run_steps_of, boundary_of}
 use Rattle.model.specs.Lock.{take_of, locked_of, late_stage_of, after_take, second_stage_of, lock_of, run_of, tried_of, find_of, attempt_at, attempt_of, spin_of, pause_of, is_busy, retry_of, attempt_limit, none_yet, hold_at, give_back_of, Locks, ended_of, rollback_of, after_key, binding_at, bucket_at, locks_of}
 use Rattle.types.specs.declared.Counts.{Counts}
 use Rattle.types.specs.declared.Flow.{Flow}
-use Rattle.types.specs.declared.Found.{Found}
-use Rattle.types.specs.declared.Found.TheVariants as found
 use Rattle.types.specs.declared.Hold.{Hold}
 use Rattle.types.specs.declared.Locked.{Locked}
 use Rattle.types.specs.declared.Outcome.{Outcome}
@@ -131,8 +130,8 @@ module _ (k : Counts) (e : Setting) where
     attempt_on r t g = ap (after (attempt_begun ∷ [])) (go (find_of e.headers buckets g registry binding bucket))
       where
         go : (x : Found) → attempt_at x e buckets (on_run k r) t g ≡ tried_on k (attempt_at x e buckets r t g)
-        go (found.Fault x) = rw (assoc k.attempts r.attempts 1)
-        go (found.At c) = rw (lock_counts k.dropped e buckets r.flow t g c, assoc k.attempts r.attempts 1, assoc k.boundaries r.boundaries (lock_of e buckets r.flow t g c).seen.0.boundaries)
+        go (Err x) = rw (assoc k.attempts r.attempts 1)
+        go (Ok c) = rw (lock_counts k.dropped e buckets r.flow t g c, assoc k.attempts r.attempts 1, assoc k.boundaries r.boundaries (lock_of e buckets r.flow t g c).seen.0.boundaries)
 
   spin_on : (r : Run) (t g : List ℕ) → spin_of e (on_run k r) t g ≡ run_on k (spin_of e r t g)
   unfolding spin_of

@@ -1,10 +1,11 @@
 -- How one attempt ends: read off the definitions, in any world and with any script.
-use Rattle.std.specs.Prelude.{ℕ, ◌≤◌, ◌≡◌, refl, leb, eqb}
+use Rattle.std.specs.Prelude.{ℕ, ◌≤◌, ◌≡◌, refl, leb, eqb, Ok, Err}
 use Rattle.std.proofs.Common.{sym, subst}
 use mathlib.Core.List.{List, [], ◌∷◌, ◌++◌, append-nil}
 use Rattle.std.proofs.Math.Nat.{zero-add}
 use native.Mathlib.Omega.{arith}
 use Rattle.std.proofs.Math.ListN.{get_or}
+use Rattle.types.specs.Checks.{Found}
 use Rattle.model.specs.Log.{Made, Event, by_caller, by_script, attempt_begun, boundary_run, yielded, spun, step_dropped, took, released, waiters_set, health_set, held_all_lem, added}
 use Rattle.model.specs.Arena.{serial_remains, header_of, is_poisoned, lease_of, hold_of, holds_of, waiters_at, state_at}
 use Rattle.model.specs.Refusals.{number_of}
@@ -13,8 +14,6 @@ use Rattle.model.specs.Lock.{take_in, take_of, late_stage_of, after_take, second
 use Rattle.model.specs.Calls.{given, starting}
 use Rattle.types.specs.declared.Answer.{Answer}
 use Rattle.types.specs.declared.Flow.{Flow}
-use Rattle.types.specs.declared.Found.{Found}
-use Rattle.types.specs.declared.Found.TheVariants as found
 use Rattle.types.specs.declared.Locked.{Locked}
 use Rattle.types.specs.declared.Refusal.TheVariants.{Damaged, SerialsSpent}
 use Rattle.types.specs.declared.Run.{Run}
@@ -97,8 +96,8 @@ module _ (e : Setting) (buckets boot : ℕ) where
 
 -- why a key names no cell
 abbrev Faulty : Found → Type 0
-Faulty (found.Fault r) = (6 ≤ number_of r) × (number_of r ≤ 8)
-Faulty (found.At c) = Unit {0}
+Faulty (Err r) = (6 ≤ number_of r) × (number_of r ≤ 8)
+Faulty (Ok c) = Unit {0}
 
 module _ (e : Setting) (buckets boot : ℕ) (registry : List ℕ) (binding bucket : ℕ) where
   find_faulty : (g : List ℕ) → Faulty (find_of e.headers buckets g registry binding bucket)
@@ -116,8 +115,8 @@ module _ (e : Setting) (buckets boot : ℕ) (registry : List ℕ) (binding bucke
   tried_ends r t g z = go (find_of e.headers buckets g registry binding bucket) (find_faulty g)
     where
       go : (x : Found) → Faulty x → let m = attempt_at x e buckets r t g in EndsBy (answer_of boot m.seen.0.outcome) m.seen.0.run.boundaries m.log
-      go (found.Fault x) h = rw z (no_cell x h.0 h.1)
-      go (found.At c) h = rw (z, zero-add (lock_of e buckets r.flow t g c).seen.0.boundaries, append-nil (lock_of e buckets r.flow t g c).log) (lock_ends e buckets boot r.flow t g c)
+      go (Err x) h = rw z (no_cell x h.0 h.1)
+      go (Ok c) h = rw (z, zero-add (lock_of e buckets r.flow t g c).seen.0.boundaries, append-nil (lock_of e buckets r.flow t g c).log) (lock_ends e buckets boot r.flow t g c)
 
 pub attempt_ends : AttemptEnds perform
 attempt_ends w registry script place words binding bucket fine =

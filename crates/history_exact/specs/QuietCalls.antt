@@ -1,8 +1,9 @@
 -- The script is at its end and the checks found nothing: what `try_lock`, `transactional_try_lock_bucket` and `acquire_index_bucket` must
 -- answer, by a table each. Every row gives the answer, all counts, the place and the world afterwards.
-use Rattle.std.specs.Prelude.{ℕ, suc, ◌+◌, ◌*◌, ◌≤◌, ◌<◌, ◌≡◌, refl, List, [], false, ◌↔◌, leb, get_or}
+use Rattle.std.specs.Prelude.{ℕ, suc, ◌+◌, ◌*◌, ◌≤◌, ◌<◌, ◌≡◌, refl, List, [], false, ◌↔◌, leb, get_or, Ok, Err}
 use Rattle.std.proofs.Common.{sym, ap, ◌∙◌, subst, zero-add, arith, leb-true, leb-false, eqb-true}
 use Rattle.std.proofs.lemmas.Bool.{eqb-false, not-true, not-false}
+use Rattle.types.specs.Checks.{Found}
 use Rattle.model.specs.Arena.{spent_to, header_of, is_poisoned, holds_of, owner_at}
 use Rattle.model.specs.Foreign.{Setting, steps_in, flow_of}
 use Rattle.model.specs.Lock.{locked_of, lock_of, answer_of, settled, run_of, tried_of, find_of, attempt_at, attempt_of, is_busy, none_yet, retry_of}
@@ -10,8 +11,6 @@ use Rattle.model.specs.Calls.{counts_of, given, starting}
 use Rattle.types.specs.declared.Answer.{Answer}
 use Rattle.types.specs.declared.Answer.TheVariants.{Granted, Busy, Refused}
 use Rattle.types.specs.declared.Flow.{Flow}
-use Rattle.types.specs.declared.Found.{Found}
-use Rattle.types.specs.declared.Found.TheVariants as found
 use Rattle.types.specs.declared.Lease.{Lease}
 use Rattle.types.specs.declared.Locked.{Locked}
 use Rattle.types.specs.declared.Outcome.TheVariants as outcome
@@ -67,13 +66,13 @@ try_lock_quiet w script place held c fine end =
 
 -- what a key names, in words
 pub data Keyed (headers buckets : ℕ) (g registry : List ℕ) (binding bucket : ℕ) : Found → Type 0 where
-  no_header : headers ≤ get_or registry binding 0 → Keyed headers buckets g registry binding bucket (found.Fault (BadHeader (get_or registry binding 0)))
+  no_header : headers ≤ get_or registry binding 0 → Keyed headers buckets g registry binding bucket (Err (BadHeader (get_or registry binding 0)))
   sick : get_or registry binding 0 < headers → (get_or g (get_or registry binding 0) 0 ≡ 0 → ⊥)
-      → Keyed headers buckets g registry binding bucket (found.Fault (Poisoned (get_or registry binding 0)))
+      → Keyed headers buckets g registry binding bucket (Err (Poisoned (get_or registry binding 0)))
   no_bucket : get_or registry binding 0 < headers → get_or g (get_or registry binding 0) 0 ≡ 0 → buckets ≤ bucket
-      → Keyed headers buckets g registry binding bucket (found.Fault (InvalidBucket bucket))
+      → Keyed headers buckets g registry binding bucket (Err (InvalidBucket bucket))
   at_cell : get_or registry binding 0 < headers → get_or g (get_or registry binding 0) 0 ≡ 0 → bucket < buckets
-      → Keyed headers buckets g registry binding bucket (found.At (get_or registry binding 0 * buckets + bucket))
+      → Keyed headers buckets g registry binding bucket (Ok (get_or registry binding 0 * buckets + bucket))
 
 pub keyed : (headers buckets : ℕ) (g registry : List ℕ) (binding bucket : ℕ) → Keyed headers buckets g registry binding bucket (find_of headers buckets g registry binding bucket)
 unfolding find_of
@@ -159,7 +158,7 @@ module _ (w : World) (registry script : List ℕ) (place : ℕ) (held : List ℕ
       let k = attempt_as around w.head.buckets registry binding bucket (run_of from 0 0 0) w.table w.health q in
       subst Fits (sym (retry_stops around w.head.buckets registry binding bucket (run_of from 0 0 0) w.table w.health 4095 0 none_yet (rw k n) ∙ k)) y
 
-  module _ (c : ℕ) (q : found_is ≡ found.At c) where
+  module _ (c : ℕ) (q : found_is ≡ Ok c) where
     -- Busy again and again for one reason, with b boundaries each
     again : (b : ℕ) (why : Reason) → (lock_of around w.head.buckets from w.table w.health c).seen ≡ (locked_of from b (outcome.Busy why), (w.table, w.health))
         → Fits (tried_of (run_of from 4096 (4096 * (b + 1) + 64) 64) (outcome.Busy why), (w.table, w.health)) → Fits retried

@@ -1,7 +1,8 @@
 -- Multi-lock where the script is at its end: keys that name different ready cells are all granted, with the next serials in key order.
 use Prim.Native.Nat.{ℕ, zero, suc, ◌+◌, ◌*◌, ◌≤◌, ◌<◌}
-use Rattle.std.specs.Prelude.{◌≡◌, refl, List, [], ◌∷◌, ◌++◌, ◌≢◌, get_or}
+use Rattle.std.specs.Prelude.{◌≡◌, refl, List, [], ◌∷◌, ◌++◌, ◌≢◌, get_or, Ok}
 use Rattle.std.proofs.Common.{sym, ap, ◌∙◌, append-nil, append_assoc, add-zero, zero-add, suc-add, arith}
+use Rattle.types.specs.Checks.{Found}
 use Rattle.model.specs.Log.{Made}
 use Rattle.model.specs.Arena.{last_serial, spent_to, header_of, hold_of, holds_of, words_of, bit_at, owner_at, waiters_at, set_cell}
 use Rattle.model.specs.Foreign.{Setting, protecting, steps_in, flow_of}
@@ -11,8 +12,6 @@ use Rattle.model.specs.Calls.{counts_of, given}
 use Rattle.types.specs.declared.Answer.TheVariants.{AllGranted}
 use Rattle.types.specs.declared.Ended.{Ended}
 use Rattle.types.specs.declared.Flow.{Flow}
-use Rattle.types.specs.declared.Found.{Found}
-use Rattle.types.specs.declared.Found.TheVariants as found
 use Rattle.types.specs.declared.Head.{Head}
 use Rattle.types.specs.declared.Hold.{Hold}
 use Rattle.types.specs.declared.Locked.{Locked}
@@ -37,10 +36,10 @@ set_all t (l ∷ ls) = set_all (set_cell t l.cell 1 l.serial) ls
 
 -- the key names this cell
 pub find_named : (headers buckets : ℕ) (g registry : List ℕ) (binding bucket : ℕ) → get_or registry binding 0 < headers → get_or g (get_or registry binding 0) 0 ≡ 0 → bucket < buckets
-    → find_of headers buckets g registry binding bucket ≡ found.At (get_or registry binding 0 * buckets + bucket)
+    → find_of headers buckets g registry binding bucket ≡ Ok (get_or registry binding 0 * buckets + bucket)
 find_named headers buckets g registry binding bucket a b c = go (keyed headers buckets g registry binding bucket)
   where
-    go : {x : Found} → Keyed headers buckets g registry binding bucket x → x ≡ found.At (get_or registry binding 0 * buckets + bucket)
+    go : {x : Found} → Keyed headers buckets g registry binding bucket x → x ≡ Ok (get_or registry binding 0 * buckets + bucket)
     go (no_header p) = absurd (omega arith)
     go (sick p q) = absurd (q b)
     go (no_bucket p q r) = absurd (omega arith)
@@ -63,7 +62,7 @@ module _ (e : Setting) (place : ℕ) (quiet : steps_in e.script ≤ place) (d y 
       go (was_sick p q r x n) = absurd (n h)
 
   retry_ready : (buckets : ℕ) (registry : List ℕ) (binding bucket s : ℕ) (t : List ℕ) (c a x : ℕ)
-      → find_of e.headers buckets g registry binding bucket ≡ found.At c
+      → find_of e.headers buckets g registry binding bucket ≡ Ok c
       → waiters_at t c ≡ 0 → bit_at t c ≡ 0 → owner_at t c ≡ 0 → s < last_serial
       → (retry_of attempt_limit 0 none_yet e buckets registry binding bucket (run_of (flowing s) a x y) t g).seen
       ≡ (tried_of (run_of (flowing (s + 1)) (a + 1) (x + 3) y) (outcome.Granted (hold_of c s)), (set_cell t c 1 s, g))
@@ -91,7 +90,7 @@ module _ (e : Setting) (place : ℕ) (quiet : steps_in e.script ≤ place) (d y 
   Apart n = (p q : ℕ) → p < n → q < n → cell p ≡ cell q → p ≡ q
 
   abbrev FoundAt : ℕ → Type 0
-  FoundAt p = find_of e.headers buckets g registry (binding_at keys p) (bucket_at keys p) ≡ found.At (cell p)
+  FoundAt p = find_of e.headers buckets g registry (binding_at keys p) (bucket_at keys p) ≡ Ok (cell p)
 
   pub record ReadyAt (t : List ℕ) (p : ℕ) : Type 0 where
     pub unwaited : waiters_at t (cell p) ≡ 0
@@ -157,7 +156,7 @@ locks_quiet w registry script place held keys grants fine end ready apart few =
     let e = given w.head script (holds_of held) in
     let cell = key_cell w.head.buckets registry keys in
     let ls = leases_from cell n 0 s in
-    let there : (p : ℕ) → p < n → find_of w.head.headers w.head.buckets w.health registry (binding_at keys p) (bucket_at keys p) ≡ found.At (cell p)
+    let there : (p : ℕ) → p < n → find_of w.head.headers w.head.buckets w.health registry (binding_at keys p) (bucket_at keys p) ≡ Ok (cell p)
     = λ p i. let a = (ready p i).0 in find_named w.head.headers w.head.buckets w.health registry (binding_at keys p) (bucket_at keys p) a.0 a.1 a.2 in
     let all = ready_keys e place end 0 0 w.head.buckets w.head.boot registry keys w.health grants n apart there n 0 0 [] s 0 0 w.table (omega arith)
     (λ q _ h. let a = ready q (omega arith) in record { unwaited = a.1; no_bit = a.2.0; no_owner = a.2.1 }) few in

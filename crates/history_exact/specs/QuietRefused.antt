@@ -1,11 +1,12 @@
 -- Multi-lock where the script is at its end, refused at position j: the keys before it were ready, the key at j is refused as
 -- `acquire_index_bucket` refuses it then. All is given back, j serials stay spent, and the counts are exact.
 use Prim.Native.Nat.{ℕ, zero, suc, ◌+◌, ◌*◌, ◌-◌, ◌≤◌, ◌<◌}
-use Rattle.std.specs.Prelude.{◌≡◌, false, ◌≢◌, length, take, get_or}
+use Rattle.std.specs.Prelude.{◌≡◌, false, ◌≢◌, length, take, get_or, Ok, Err}
 use Rattle.std.proofs.Math.Path.{refl, ap}
 use Rattle.std.proofs.Common.{sym, ◌∙◌, subst, zero-add}
 use mathlib.Core.List.{List, [], ◌∷◌, ◌++◌}
 use Rattle.std.proofs.Math.Nat.{add-zero}
+use Rattle.types.specs.Checks.{Found}
 use native.Mathlib.Omega.{arith}
 use Rattle.model.specs.Log.{Made}
 use Rattle.model.specs.Arena.{spent_to, header_of, hold_of, holds_of, bit_at, owner_at, set_cell, cells_of, last_serial, state_at}
@@ -17,8 +18,6 @@ use Rattle.types.specs.declared.Answer.{Answer}
 use Rattle.types.specs.declared.Answer.TheVariants.{Refused, RefusedAt}
 use Rattle.types.specs.declared.Ended.{Ended}
 use Rattle.types.specs.declared.Flow.{Flow}
-use Rattle.types.specs.declared.Found.{Found}
-use Rattle.types.specs.declared.Found.TheVariants as found
 use Rattle.types.specs.declared.Head.{Head}
 use Rattle.types.specs.declared.Hold.{Hold}
 use Rattle.types.specs.declared.Locked.{Locked}
@@ -119,14 +118,14 @@ module _ (f : Flow) (t g : List ℕ) (buckets : ℕ) (registry : List ℕ) (bind
         let k = attempt_as e buckets registry binding bucket (run_of f a x y) t g q in
         retry_stops e buckets registry binding bucket (run_of f a x y) t g 4095 0 none_yet (rw k n) ∙ k
 
-    again : (c b : ℕ) (why : Reason) → find_of e.headers buckets g registry binding bucket ≡ found.At c → (lock_of e buckets f t g c).seen ≡ (locked_of f b (outcome.Busy why), (t, g))
+    again : (c b : ℕ) (why : Reason) → find_of e.headers buckets g registry binding bucket ≡ Ok c → (lock_of e buckets f t g c).seen ≡ (locked_of f b (outcome.Busy why), (t, g))
         → retried ≡ (tried_of (run_of f (a + 4096) (x + (4096 * (b + 1) + 64)) (y + 64)) (outcome.Busy why), (t, g))
     again c b why q l =
         ap (λ m. m.seen) (retry_first 4095 0 none_yet why e buckets registry binding bucket (run_of f a x y) t g)
         ∙ busy_retry e f t g quiet buckets registry binding bucket b why (λ a x y. attempt_as e buckets registry binding bucket (run_of f a x y) t g q ∙ rw l) 4096 0 a x y
         ∙ same_tried refl (omega (arith, sixty_four)) (omega (arith, sixty_four))
 
-    at_cell : (c : ℕ) {m : With Locked} → find_of e.headers buckets g registry binding bucket ≡ found.At c → QuietLock buckets f t g c m → (lock_of e buckets f t g c).seen ≡ m
+    at_cell : (c : ℕ) {m : With Locked} → find_of e.headers buckets g registry binding bucket ≡ Ok c → QuietLock buckets f t g c m → (lock_of e buckets f t g c).seen ≡ m
         → retried ≡ closed a x y m m.0.answer
     at_cell c q (was_waited n) l = again c 1 reason.Before q l
     at_cell c q (was_held u p r z) l = again c 2 (reason.Held (owner_at t c)) q l
@@ -141,8 +140,8 @@ module _ (f : Flow) (t g : List ℕ) (buckets : ℕ) (registry : List ℕ) (bind
     where
       go : (z : Found) → find_of e.headers buckets g registry binding bucket ≡ z → find_of e'.headers buckets g registry binding bucket ≡ z
           → retried e q a x y ≡ counted_on a x y (retried e' q' 0 0 0)
-      go (found.Fault r) u v = stop e q a x y u refl ∙ same_tried refl (omega arith) (omega arith) ∙ ap (counted_on a x y) (sym (stop e' q' 0 0 0 v refl))
-      go (found.At c) u v =
+      go (Err r) u v = stop e q a x y u refl ∙ same_tried refl (omega arith) (omega arith) ∙ ap (counted_on a x y) (sym (stop e' q' 0 0 0 v refl))
+      go (Ok c) u v =
           let k = lock_quiet e buckets f t g c q in
           let l = unique (lock_quiet e' buckets f t g c q') k in
           at_cell e q a x y c u k refl
@@ -247,8 +246,8 @@ module _ (f : Flow) (t g : List ℕ) (buckets : ℕ) (registry : List ℕ) (bind
       row c h (was_sick u p q r n) k = absurd (n h)
 
       go : (z : Found) → find_of e.headers buckets g registry binding bucket ≡ z → Unmoved (retried f t g buckets registry binding bucket e quiet 0 0 0)
-      go (found.Fault r) q = subst Unmoved (sym (stop f t g buckets registry binding bucket e quiet 0 0 0 q refl)) (λ _. (refl, refl))
-      go (found.At c) q =
+      go (Err r) q = subst Unmoved (sym (stop f t g buckets registry binding bucket e quiet 0 0 0 q refl)) (λ _. (refl, refl))
+      go (Ok c) q =
           let k = lock_quiet e buckets f t g c quiet in
           subst Unmoved (sym (at_cell f t g buckets registry binding bucket e quiet 0 0 0 c q k refl)) (row c (find_healthy e.headers buckets g registry binding bucket c q) k)
 
@@ -356,7 +355,7 @@ module _ (w : World) (registry script : List ℕ) (place : ℕ) (held keys grant
         let f = flow_of (s + j) place 0 in
         let left = count_in keys - (j + 1) in
         let n : j + suc left ≡ count_in keys = omega arith in
-        let there : (p : ℕ) → p < j → find_of w.head.headers w.head.buckets g registry (binding_at keys p) (bucket_at keys p) ≡ found.At (cell p)
+        let there : (p : ℕ) → p < j → find_of w.head.headers w.head.buckets g registry (binding_at keys p) (bucket_at keys p) ≡ Ok (cell p)
         = λ p i. let a = (ready p i).0 in find_named w.head.headers w.head.buckets g registry (binding_at keys p) (bucket_at keys p) a.0 a.1 a.2 in
         let all = ready_keys e place end 0 0 w.head.buckets w.head.boot registry keys g grants j apart there j (suc left) 0 [] s 0 0 t (omega arith)
         (λ q _ h. let a = ready q (omega arith) in record { unwaited = a.1; no_bit = a.2.0; no_owner = a.2.1 }) serials in

@@ -5,11 +5,12 @@ use Rattle.std.proofs.Math.Path.{◌≡◌, refl}
 use Rattle.std.proofs.Common.{sym, ap, ◌∙◌, subst, eqb-true}
 use mathlib.Core.List.{List, [], ◌∷◌, ◌++◌}
 use Rattle.std.proofs.Math.Bool.{true, false, not}
-use Rattle.std.specs.Prelude.{◌&&◌, ltb, eqb, length, take}
+use Rattle.std.specs.Prelude.{◌&&◌, ltb, eqb, length, take, Ok, Err}
 use native.Mathlib.Omega.{arith}
 use Rattle.std.proofs.Math.Dec.{leb}
 use Rattle.std.proofs.Math.ListN.{get_or}
 use Rattle.std.proofs.lemmas.Bool.{eqb-false}
+use Rattle.types.specs.Checks.{Found}
 use Rattle.model.specs.Log.{Made, Event, yielded, spun}
 use Rattle.model.specs.Arena.{serial_remains, header_of, is_poisoned, hold_of, holds_of, bit_at, owner_at, waiters_at, set_cell, state_at, is_free, is_live, is_in}
 use Rattle.model.specs.Foreign.{Setting, protecting, steps_in, kind_at, place_at, number_at, flow_of, step_take_of, step_release_of, step_waiters_of, step_health_of, step_of, run_steps_of, boundary_of}
@@ -20,8 +21,6 @@ use Rattle.model.specs.Crew.{total}
 use Rattle.types.specs.declared.Answer.{Answer}
 use Rattle.types.specs.declared.Answer.TheVariants.{Granted, AllGranted, Refused, RefusedAt}
 use Rattle.types.specs.declared.Flow.{Flow}
-use Rattle.types.specs.declared.Found.{Found}
-use Rattle.types.specs.declared.Found.TheVariants as found
 use Rattle.types.specs.declared.Hold.{Hold}
 use Rattle.types.specs.declared.Lease.{Lease}
 use Rattle.types.specs.declared.Locked.{Locked}
@@ -145,8 +144,8 @@ Else (outcome.Busy why) = Unit {0}
 Else (outcome.Refused r) = (why : Reason) → r ≡ SerializationFailure why → ⊥
 
 abbrev FaultElse : Found → Type 0
-FaultElse (found.Fault r) = (why : Reason) → r ≡ SerializationFailure why → ⊥
-FaultElse (found.At c) = Unit {0}
+FaultElse (Err r) = (why : Reason) → r ≡ SerializationFailure why → ⊥
+FaultElse (Ok c) = Unit {0}
 
 lock_else : {buckets c : ℕ} {g : List ℕ} {o : Outcome} → Comes buckets c g o → Else o
 lock_else (granted s h) = tt
@@ -178,8 +177,8 @@ module _ (e : Setting) (buckets : ℕ) (registry : List ℕ) (binding bucket : �
       record { no_spin = omega (arith, k.no_spin); one_attempt = k.one_attempt; no_yield = k.no_yield; other = k.other }
     where
       go : (x : Found) → FaultElse x → One r (attempt_at x e buckets r t g)
-      go (found.Fault x) h = record { no_spin = refl; one_attempt = refl; no_yield = refl; other = h }
-      go (found.At c) h =
+      go (Err x) h = record { no_spin = refl; one_attempt = refl; no_yield = refl; other = h }
+      go (Ok c) h =
           record {
             no_spin = (two_still (lock_still e buckets r.flow t g c) (record { none = refl })).none;
             one_attempt = refl;

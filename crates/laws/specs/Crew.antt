@@ -1,6 +1,6 @@
 -- The moves of a crew's work, and what its checks give: few members with few cells, each member's list in the run, in range and strictly
 -- rising, and one counter a cell.
-use Rattle.std.specs.Prelude.{ℕ, zero, suc, ◌+◌, ◌*◌, ◌≤◌, ◌<◌, ◌≡◌, refl, List, [], ◌∷◌, ◌++◌, true, not, ◌&&◌, ◌||◌, ltb, leb, eqb, length, get_or, drop}
+use Rattle.std.specs.Prelude.{ℕ, zero, suc, ◌+◌, ◌*◌, ◌≤◌, ◌<◌, ◌≡◌, refl, List, [], ◌∷◌, ◌++◌, true, not, ◌&&◌, ◌||◌, ltb, leb, eqb, length, get_or, drop, Ok}
 use Rattle.std.proofs.Common.{◌∙◌, arith, length-take, length-drop, get_or-take, get_or-drop, ltb-true, ltb-false, leb-true, eqb-true, eq-eqb}
 use Rattle.std.proofs.Math.Decide.{dec_lt, ℕ_discrete}
 use Rattle.std.proofs.Math.ListN.{get_or-eq_default}
@@ -9,7 +9,6 @@ use Rattle.model.specs.Arena.{within, cells_of}
 use Rattle.model.specs.Refusals.{first}
 use Rattle.model.specs.Checks.{bad_shape, bad_health}
 use Rattle.model.specs.Crew.{Work, rests, adds, adds_of, moves_of, total, start_of, count_of, list_of, all_within, bad_limits, rises_from, bad_lists, plan_rules, crew_rules, bad_counters, crew_at_work_rules}
-use Rattle.types.specs.declared.Check.TheVariants.{Fine}
 use Rattle.types.specs.declared.Head.{Head}
 use Rattle.choice.specs.Pick.{both, neither}
 use Rattle.laws.specs.Checks.{fine_rest, first_skip}
@@ -81,7 +80,7 @@ each most [] e m = omega arith
 each most (n ∷ ns) e zero = leb-true n most (both (leb n most) (all_within most ns) e).0
 each most (n ∷ ns) e (suc m) = each most ns (both (leb n most) (all_within most ns) e).1 m
 
-pub limits_fine : (counts cells turns : List ℕ) → first (bad_limits counts cells turns ∷ []) ≡ Fine → Limited counts cells turns
+pub limits_fine : (counts cells turns : List ℕ) → first (bad_limits counts cells turns ∷ []) ≡ Ok tt → Limited counts cells turns
 limits_fine counts cells turns e =
     let n = length counts in
     let a1 = not (within 1 16 n) in
@@ -106,7 +105,7 @@ limits_fine counts cells turns e =
 -- ---- lists
 
 -- each list of `left` members from m on
-pub lists_rise : (left m inside : ℕ) (counts cells : List ℕ) → first (bad_lists left m inside counts cells) ≡ Fine
+pub lists_rise : (left m inside : ℕ) (counts cells : List ℕ) → first (bad_lists left m inside counts cells) ≡ Ok tt
     → (q : ℕ) → m ≤ q → q < m + left → rises_from inside 0 (list_of counts cells q) ≡ true
 unfolding bad_lists
 lists_rise zero m inside counts cells e q a b = absurd (omega arith)
@@ -125,7 +124,7 @@ rises_inside inside low (c ∷ cs) e (suc i) l =
     rises_inside inside (c + 1) cs (both (leb low c && ltb c inside) (rises_from inside (c + 1) cs) e).1 i (omega arith)
 
 -- every cell of every list is in range
-pub cell_inside : (inside : ℕ) (counts cells : List ℕ) → length cells ≡ total counts → first (bad_lists (length counts) 0 inside counts cells) ≡ Fine
+pub cell_inside : (inside : ℕ) (counts cells : List ℕ) → length cells ≡ total counts → first (bad_lists (length counts) 0 inside counts cells) ≡ Ok tt
     → (m j : ℕ) → j < count_of counts m → get_or cells (start_of counts m + j) 0 < inside
 cell_inside inside counts cells size e m j l =
     let r = lists_rise (length counts) 0 inside counts cells e m (omega arith) (omega (arith, member counts m (omega arith))) in
@@ -134,7 +133,7 @@ cell_inside inside counts cells size e m j l =
 -- ---- the checks of the crew at work are those of the crew, and one counter a cell
 
 module _ (h : Head) (t g counts cells turns counters : List ℕ) where
-  pub at_work_fine : length counters ≡ cells_of h → first (crew_rules h t g counts cells turns) ≡ Fine → first (crew_at_work_rules h t g counts cells turns counters) ≡ Fine
+  pub at_work_fine : length counters ≡ cells_of h → first (crew_rules h t g counts cells turns) ≡ Ok tt → first (crew_at_work_rules h t g counts cells turns counters) ≡ Ok tt
   unfolding crew_rules crew_at_work_rules
   at_work_fine wide e =
       let a = fine_rest _ _ e in
@@ -142,7 +141,7 @@ module _ (h : Head) (t g counts cells turns counters : List ℕ) where
       first_skip (bad_shape h t) _ a.0 ∙ first_skip (bad_health h g) _ b.0
       ∙ first_skip (bad_counters h counters) (plan_rules h counts cells turns) (rw (eq-eqb (length counters) (cells_of h) wide)) ∙ b.1
 
-  pub fine_at_work : first (crew_at_work_rules h t g counts cells turns counters) ≡ Fine → (length counters ≡ cells_of h) × (first (crew_rules h t g counts cells turns) ≡ Fine)
+  pub fine_at_work : first (crew_at_work_rules h t g counts cells turns counters) ≡ Ok tt → (length counters ≡ cells_of h) × (first (crew_rules h t g counts cells turns) ≡ Ok tt)
   unfolding crew_rules crew_at_work_rules
   fine_at_work e =
       let a = fine_rest _ _ e in

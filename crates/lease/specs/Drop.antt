@@ -1,9 +1,10 @@
 -- The stages of `drop_preserving_borrows`, and its quick way; and a lease of a list by the place of its first word.
-use Rattle.std.specs.Prelude.{ℕ, ◌+◌, ◌*◌, ◌≡◌, Bool, length, get_or}
+use Rattle.std.specs.Prelude.{ℕ, ◌+◌, ◌*◌, ◌≡◌, Bool, length, get_or, Ok, Err}
 use Rattle.std.proofs.Math.Path.{refl, ap}
 use Rattle.std.proofs.Common.{◌∙◌, arith}
 use mathlib.Core.List.{List, [], ◌∷◌}
 use Rattle.std.proofs.Math.Bool.{true, false}
+use Rattle.types.specs.Checks.{Check}
 use Rattle.model.specs.Log.{Made, gives, ◌>>=◌}
 use Rattle.model.specs.Arena.{set_cell, lease_of, hold_in, holds_of, leases_of, shape_fits, is_in}
 use Rattle.model.specs.Refusals.{first, judge}
@@ -11,17 +12,11 @@ use Rattle.model.specs.Checks.{stale_boot, not_held, is_protected, not_live, lea
 use Rattle.model.specs.Calls.{refused, replied, release_of, drop_lease_of, drop_preserving_of}
 use Rattle.laws.specs.Checks.{lease_in, LeaseFine, lease_fine, shape_ok, or_else, first_append, first_hit, first_skip}
 use Rattle.types.specs.declared.Answer.TheVariants.{Done}
-use Rattle.types.specs.declared.Check.{Check}
-use Rattle.types.specs.declared.Check.TheVariants.{Fine, Fault}
 use Rattle.types.specs.declared.Head.{Head}
 use Rattle.types.specs.declared.Lease.{Lease}
 use Rattle.types.specs.declared.Refusal.{Refusal}
 use Rattle.types.specs.declared.Refusal.TheVariants.{Protected}
 use Rattle.types.specs.declared.Reply.{Reply}
-
-pub lease_from : (list : List ℕ) (at i : ℕ) → at ≡ 3 * i
-    → lease_of (get_or list at 0) (get_or list (at + 1) 0) (get_or list (at + 2) 0) ≡ lease_in list i
-lease_from list at i e = rw e
 
 -- the release, or a refusal that changes nothing
 abbrev dropping : Head → List ℕ → Lease → Check → Made (Reply × List ℕ)
@@ -50,12 +45,12 @@ module _ (h : Head) (t held : List ℕ) (l : Lease) where
   unfolding drop_behind_of
   behind_is c e = ap (λ k. (dropping h t l k).seen) (first_append (stale_boot h 0 l ∷ not_held h t 0 l ∷ []) (is_protected held l ∷ []) ∙ ap then13 e)
 
-  pub behind_ends : (r : Refusal) → first (stale_boot h 0 l ∷ not_held h t 0 l ∷ []) ≡ Fault r → drop_behind_of h t held l ≡ (refused h r, t)
-  behind_ends r e = behind_is (Fault r) e
+  pub behind_ends : (r : Refusal) → first (stale_boot h 0 l ∷ not_held h t 0 l ∷ []) ≡ Err r → drop_behind_of h t held l ≡ (refused h r, t)
+  behind_ends r e = behind_is (Err r) e
 
-  pub behind_goes : first (stale_boot h 0 l ∷ not_held h t 0 l ∷ []) ≡ Fine → drop_behind_of h t held l ≡ drop_unprotected_of h t held l
+  pub behind_goes : first (stale_boot h 0 l ∷ not_held h t 0 l ∷ []) ≡ Ok tt → drop_behind_of h t held l ≡ drop_unprotected_of h t held l
   unfolding drop_unprotected_of first
-  behind_goes e = behind_is Fine e ∙ go (is_in (hold_in l) (holds_of held)) refl
+  behind_goes e = behind_is (Ok tt) e ∙ go (is_in (hold_in l) (holds_of held)) refl
     where
       go : (b : Bool) → is_in (hold_in l) (holds_of held) ≡ b → (dropping h t l (first (is_protected held l ∷ []))).seen ≡ by_held b h t l
       go true q = ap (λ k. (dropping h t l k).seen) (first_hit (is_protected held l) [] q)
@@ -63,7 +58,7 @@ module _ (h : Head) (t held : List ℕ) (l : Lease) where
 
 -- a lease that is live, behind a shape that fits, has its words in the table
 pub behind_fine : (h : Head) (t : List ℕ) (l : Lease) → shape_fits h (length t) ≡ true
-    → first (stale_boot h 0 l ∷ not_held h t 0 l ∷ []) ≡ Fine → LeaseFine h t l
+    → first (stale_boot h 0 l ∷ not_held h t 0 l ∷ []) ≡ Ok tt → LeaseFine h t l
 unfolding lease_rules
 behind_fine h t l s e = lease_fine h t l (shape_ok h t _ s ∙ e)
 

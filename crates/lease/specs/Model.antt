@@ -1,16 +1,13 @@
 -- One compare-and-set on a whole head: document 01's definition, with the head around the next serial.
-use Rattle.std.specs.Prelude.{ℕ, ◌≡◌, refl, Bool, true, false, List, [], ◌∷◌, length}
+use Rattle.std.specs.Prelude.{ℕ, ◌≡◌, refl, Bool, true, false, List, [], ◌∷◌, length, Option, Some, None, Ok}
 use Rattle.std.proofs.Common.{ap, ◌∙◌, arith}
 use Rattle.model.specs.Arena.{serial_remains, spent_to, set_cell, state_at, issue_of, leases_of}
 use Rattle.model.specs.Lock.{take_in, take_of, outcome_of, answer_of}
 use Rattle.model.specs.Calls.{replied, acquire_of}
 use Rattle.model.specs.Checks.{bad_held, not_live}
 use Rattle.model.specs.Refusals.{first}
-use Rattle.types.specs.declared.Check.TheVariants.{Fine}
 use Rattle.types.specs.declared.Head.{Head}
 use Rattle.types.specs.declared.Reply.{Reply}
-use Rattle.types.specs.declared.Serial.{Serial}
-use Rattle.types.specs.declared.Serial.TheVariants as serial
 use Rattle.types.specs.declared.State.TheVariants as state
 use Rattle.types.specs.declared.Take.{Take}
 use Rattle.types.specs.declared.Take.TheVariants as taking
@@ -28,9 +25,9 @@ unfoldable pub claim_at_of : Head → List ℕ → ℕ → Claim × List ℕ
 claim_at_of h t c = claimed h (take_of h.next t c).seen
 
 -- of a cell that is known to be free: by what the head issues
-abbrev pub serve : Serial → Head → List ℕ → ℕ → Claim × List ℕ
-serve (serial.Issued n) h t c = (claim_with h (taking.Granted n), set_cell t c 1 n)
-serve serial.Spent h t c = (claim_with h taking.Spent, t)
+abbrev pub serve : Option ℕ → Head → List ℕ → ℕ → Claim × List ℕ
+serve (Some n) h t c = (claim_with h (taking.Granted n), set_cell t c 1 n)
+serve None h t c = (claim_with h taking.Spent, t)
 
 unfoldable pub claim_free_of : Head → List ℕ → ℕ → Claim × List ℕ
 claim_free_of h t c = serve (issue_of h).serial (issue_of h).head t c
@@ -58,7 +55,7 @@ pub acquire_free : (n : ℕ) (h : Head) (t : List ℕ) (c : ℕ) → state_at h.
 acquire_free n h t c e = acquire_is n h t c ∙ ap (λ (k : Claim × List ℕ). (claim_reply_of n k.0 c, k.1)) (claim_free h t c e)
 
 -- an empty held list has no fault
-pub none_held : (h : Head) (t held : List ℕ) → length held ≡ 0 → Fine ≡ first (bad_held h t held)
+pub none_held : (h : Head) (t held : List ℕ) → length held ≡ 0 → (Ok tt) ≡ first (bad_held h t held)
 unfolding first not_live leases_of
 none_held h t [] e = refl
 none_held h t (x ∷ xs) e = absurd (omega arith)

@@ -1,6 +1,6 @@
 -- Laws of one try_lock: past the script's end it is the quiet one, of a healthy header; what its flow and its boundaries
 -- keep.
-use Rattle.std.specs.Prelude.{ℕ, ◌≤◌, ◌≡◌, Bool, get_or, if◌then◌else◌}
+use Rattle.std.specs.Prelude.{ℕ, ◌≤◌, ◌≡◌, Bool, get_or, if◌then◌else◌, None}
 use Rattle.std.proofs.Math.Path.{refl}
 use Rattle.std.proofs.Common.{ap, ◌∙◌}
 use mathlib.Core.List.{List, [], ◌∷◌}
@@ -26,8 +26,7 @@ use Rattle.choice.specs.Pick.{if_both}
 use Rattle.laws.specs.Words.{waiters_set_cell}
 use Rattle.lease.specs.Model.{claim_at_of}
 use Rattle.foreign.specs.Laws.{FlowBound, boundary_quiet, boundary_flow_bound}
-use Rattle.lock.specs.Model.{boundaries_for, quiet_take, quiet_lock_of, unwaited_of, quiet_outcome_of, quiet_by, quiet_take_of, locked_by, gave_up}
-use Rattle.lock.specs.declared.Quietly.TheVariants as quietly
+use Rattle.lock.specs.Model.{boundaries_for, quiet_take, quiet_lock_of, quiet_outcome_of, quiet_by, quiet_take_of, locked_by, gave_up}
 
 -- ---- past the script's end
 
@@ -79,23 +78,14 @@ module _ (e : Setting) (buckets : ℕ) (g : List ℕ) (c : ℕ) (healthy : get_o
       go true w = second_quiet f t l (eqb-true _ _ w)
       go false w = refl
 
--- a compare-and-set comes to the same, by its own answer and by the quiet one's
-unwaited_is : (c : ℕ) (a : Take) → outcome_of c a ≡ quiet_outcome_of c (unwaited_of a)
-unwaited_is c (taking.Granted s) = refl
-unwaited_is c (taking.Busy owner) = refl
-unwaited_is c taking.Damaged = refl
-unwaited_is c taking.Spent = refl
-
--- the quiet one, by its answer in two numbers
+-- the quiet one, by the compare-and-set's answer
 pub quiet_is : (f : Flow) (t : List ℕ) (c : ℕ) → quiet_lock_of f t c ≡ locked_by c (quiet_take_of f t c)
 unfolding quiet_lock_of quiet_take_of
 quiet_is f t c = go (eqb (waiters_at t c) 0)
   where
     go : (b : Bool) → (if b then quiet_take f c (take_of f.next t c).seen else (locked_of f 1 (outcome.Busy reason.Before), t))
-        ≡ locked_by c (if b then quiet_by f (take_of f.next t c).seen else (record { flow = f; boundaries = 1; answer = quietly.Waited }, t))
-    go true =
-        let k = (take_of f.next t c).seen in
-        ap (λ (o : Outcome). (locked_of (flow_of k.0.next f.place f.dropped) (boundaries_for k.0.answer) o, k.1)) (unwaited_is c k.0.answer)
+        ≡ locked_by c (if b then quiet_by f (take_of f.next t c).seen else (record { flow = f; boundaries = 1; answer = None }, t))
+    go true = refl
     go false = refl
 
 -- ---- what a try_lock keeps: drops stay flow-bound by steps, and it has at most three boundaries

@@ -14,13 +14,14 @@ ghost use Rattle.model.specs.Calls.{try_lock_of};
 ghost use Rattle.foreign.specs.Model.{in_scope, setting_of, RoomIn};
 ghost use Rattle.foreign.specs.Laws.{FlowBound};
 ghost use Rattle.lock.specs.Model.{CellIn, gave_up, boundaries_for, lock_once_of};
-ghost use Rattle.lock.specs.Model.{unwaited_of, quiet_outcome_of, quiet_take_of, quiet_lock_of};
+ghost use Rattle.lock.specs.Model.{quiet_outcome_of, quiet_take_of, quiet_lock_of};
 ghost use Rattle.lock.specs.Fine.{LockFine};
 
-use foreign::Scope;
-use types::{Check, Flow, Head, Hold, Locked, Outcome, Reason, Refusal, Run, ScriptReply, Take};
+use foreign::{Holds, Scope};
+use types::{Flow, Head, Hold, Locked, Outcome, Reason, Refusal, Run, ScriptReply, Take};
 
 // The new lease released after the third boundary. Its serial stays spent.
+#[tactic(auto, unfolding(crate::specs::Model::gave_up))]
 fn give_up(flow: Flow, table: &mut [u32], cell: u32, answer: Outcome) -> Locked
     requires { 3 * cell + 2 < length table.old }
     ensures { (result, table.new) ≡ gave_up flow table.old cell answer }
@@ -34,26 +35,23 @@ fn give_up(flow: Flow, table: &mut [u32], cell: u32, answer: Outcome) -> Locked
 }
 
 // The third boundary, then the health of the cell's header, then the second look at the waiters.
+#[tactic(auto, unfolding(model::specs::Lock::late_stage_of))]
 fn late_stage(
     scope: Scope,
     flow: Flow,
     table: &mut [u32],
     health: &mut [u8],
     script: &[u32],
-    held: &[u32],
-    taken: &[[u32; 2]; 64],
-    n: usize,
+    holds: &Holds<'_>,
     own: Hold,
 ) -> Locked
-    requires { RoomIn scope (length table.old) (length health.old) n (length script.now)
+    requires { RoomIn scope (length table.old) (length health.old) holds.now.n (length script.now)
         × (FlowBound scope.steps flow × CellIn scope own.cell) }
     ensures { (result, (table.new, health.new))
-        ≡ (late_stage_of (setting_of scope script.now held.now taken.now n)
+        ≡ (late_stage_of (setting_of scope script.now holds.now.held.now holds.now.taken.now holds.now.n)
         scope.buckets flow table.old health.old own.cell own.serial).seen }
 {
-    let after = foreign::protecting_boundary(
-        scope, flow, table, health, script, held, taken, n, own,
-    );
+    let after = foreign::protecting_boundary(scope, flow, table, health, script, holds, own);
     let header = own.cell / scope.buckets;
     if health[header as usize] != 0 {
         return give_up(
@@ -86,36 +84,32 @@ fn stopped(flow: Flow, answer: Outcome) -> Locked
 }
 
 // The second boundary, and the compare-and-set.
+#[tactic(auto, unfolding(model::specs::Lock::second_stage_of))]
 fn second_stage(
     scope: Scope,
     flow: Flow,
     table: &mut [u32],
     health: &mut [u8],
     script: &[u32],
-    held: &[u32],
-    taken: &[[u32; 2]; 64],
-    n: usize,
+    holds: &Holds<'_>,
     cell: u32,
 ) -> Locked
-    requires { RoomIn scope (length table.old) (length health.old) n (length script.now)
+    requires { RoomIn scope (length table.old) (length health.old) holds.now.n (length script.now)
         × (FlowBound scope.steps flow × CellIn scope cell) }
     ensures { (result, (table.new, health.new))
-        ≡ (second_stage_of (setting_of scope script.now held.now taken.now n)
+        ≡ (second_stage_of (setting_of scope script.now holds.now.held.now holds.now.taken.now holds.now.n)
         scope.buckets flow table.old health.old cell).seen }
 {
-    let after = foreign::boundary(scope, flow, table, health, script, held, taken, n);
+    let after = foreign::boundary(scope, flow, table, health, script, holds);
     let claim = lease::claim_at(scope.head(after.next), table, cell);
-    let spent = claim.head;
-    let answer = claim.answer;
     let on = Flow {
-        next: spent.next,
-        place: after.place,
-        dropped: after.dropped,
+        next: claim.head.next,
+        ..after
     };
-    match answer {
+    match claim.answer {
         Take::Granted(serial) => {
             let own = Hold { cell, serial };
-            late_stage(scope, on, table, health, script, held, taken, n, own)
+            late_stage(scope, on, table, health, script, holds, own)
         }
         Take::Busy(owner) => stopped(on, Outcome::Busy(Reason::Held(owner))),
         Take::Damaged => stopped(on, Outcome::Refused(Refusal::Damaged(cell))),
@@ -124,33 +118,28 @@ fn second_stage(
 }
 
 // One try_lock: the first boundary, and the first look at the waiters.
+#[tactic(auto, unfolding(model::specs::Lock::lock_of))]
 pub fn lock(
     scope: Scope,
     flow: Flow,
     table: &mut [u32],
     health: &mut [u8],
     script: &[u32],
-    held: &[u32],
-    taken: &[[u32; 2]; 64],
-    n: usize,
+    holds: &Holds<'_>,
     cell: u32,
 ) -> Locked
-    requires { RoomIn scope (length table.old) (length health.old) n (length script.now)
+    requires { RoomIn scope (length table.old) (length health.old) holds.now.n (length script.now)
         × (FlowBound scope.steps flow × CellIn scope cell) }
     ensures { (result, (table.new, health.new))
-        ≡ (lock_of (setting_of scope script.now held.now taken.now n)
+        ≡ (lock_of (setting_of scope script.now holds.now.held.now holds.now.taken.now holds.now.n)
         scope.buckets flow table.old health.old cell).seen }
 {
-    let after = foreign::boundary(scope, flow, table, health, script, held, taken, n);
+    let after = foreign::boundary(scope, flow, table, health, script, holds);
     if arena::waiters_at(table, cell) == 0 {
-        return second_stage(scope, after, table, health, script, held, taken, n, cell);
+        return second_stage(scope, after, table, health, script, holds, cell);
     }
     Locked {
-        flow: Flow {
-            next: after.next,
-            place: after.place,
-            dropped: after.dropped,
-        },
+        flow: after,
         boundaries: 1,
         answer: Outcome::Busy(Reason::Before),
     }
@@ -162,80 +151,51 @@ fn boundaries_for(answer: Take) -> usize
 {
     match answer {
         Take::Granted(_) => 3,
-        Take::Busy(_) => 2,
-        Take::Damaged => 2,
-        Take::Spent => 2,
+        Take::Busy(_) | Take::Damaged | Take::Spent => 2,
     }
 }
 
-// What one try_lock answers where every boundary is quiet: its compare-and-set's answer, held by this serial, or that
-// somebody waits and there was none.
-#[derive(Clone, Copy)]
-pub enum Quietly {
-    Granted(u32),
-    Held(u32),
-    Waited,
-    Damaged,
-    Spent,
-}
-
-// That, and what it counts.
-#[derive(Clone, Copy)]
+// What one try_lock answers where every boundary is quiet: its compare-and-set's answer, or, where somebody waits, that
+// there was none; and what it counts.
+#[derive(Clone, Copy, Debug, PartialEq, Eq)]
 pub struct Quiet {
     pub flow: Flow,
     pub boundaries: usize,
-    pub answer: Quietly,
-}
-
-// Where nobody waits it is the compare-and-set's answer.
-fn unwaited(answer: Take) -> Quietly
-    ensures { result ≡ unwaited_of answer }
-{
-    match answer {
-        Take::Granted(serial) => Quietly::Granted(serial),
-        Take::Busy(owner) => Quietly::Held(owner),
-        Take::Damaged => Quietly::Damaged,
-        Take::Spent => Quietly::Spent,
-    }
+    pub answer: Option<Take>,
 }
 
 // What an attempt on a cell comes to that answers so.
-pub fn quiet_outcome(cell: u32, answer: Quietly) -> Outcome
+pub fn quiet_outcome(cell: u32, answer: Option<Take>) -> Outcome
     ensures { result ≡ quiet_outcome_of cell answer }
 {
     match answer {
-        Quietly::Granted(serial) => Outcome::Granted(Hold { cell, serial }),
-        Quietly::Held(owner) => Outcome::Busy(Reason::Held(owner)),
-        Quietly::Waited => Outcome::Busy(Reason::Before),
-        Quietly::Damaged => Outcome::Refused(Refusal::Damaged(cell)),
-        Quietly::Spent => Outcome::Refused(Refusal::SerialsSpent(cell)),
+        Some(take) => lease::outcome(cell, take),
+        None => Outcome::Busy(Reason::Before),
     }
 }
 
 // One try_lock past the script's end, where every boundary is quiet, of a cell whose header is healthy: it still is
-// after the third. The answer is two numbers, where an outcome is five.
+// after the third. The answer is three numbers, where an outcome is five.
+#[tactic(auto, unfolding(crate::specs::Model::quiet_take_of))]
 pub fn quiet_take(head: Head, flow: Flow, table: &mut [u32], cell: u32) -> Quiet
     requires { 3 * cell + 2 < length table.old }
     ensures { (result, table.new) ≡ quiet_take_of flow table.old cell }
 {
     if arena::waiters_at(table, cell) == 0 {
         let claim = lease::claim_at(head.spent_to(flow.next), table, cell);
-        let spent = claim.head;
-        let answer = claim.answer;
         return Quiet {
             flow: Flow {
-                next: spent.next,
-                place: flow.place,
-                dropped: flow.dropped,
+                next: claim.head.next,
+                ..flow
             },
-            boundaries: boundaries_for(answer),
-            answer: unwaited(answer),
+            boundaries: boundaries_for(claim.answer),
+            answer: Some(claim.answer),
         };
     }
     Quiet {
         flow,
         boundaries: 1,
-        answer: Quietly::Waited,
+        answer: None,
     }
 }
 
@@ -245,17 +205,16 @@ pub fn quiet_lock(head: Head, flow: Flow, table: &mut [u32], cell: u32) -> Locke
     ensures { (result, table.new) ≡ quiet_lock_of flow table.old cell }
 {
     let quiet = quiet_take(head, flow, table, cell);
-    let after = quiet.flow;
-    let answer = quiet.answer;
     Locked {
-        flow: after,
+        flow: quiet.flow,
         boundaries: quiet.boundaries,
-        answer: quiet_outcome(cell, answer),
+        answer: quiet_outcome(cell, quiet.answer),
     }
 }
 
 // ---- the calls
 
+#[tactic(auto, using(laws::specs::Checks::fronts))]
 fn lock_check(
     head: Head,
     table: &[u32],
@@ -264,16 +223,13 @@ fn lock_check(
     place: usize,
     held: &[u32],
     cell: u32,
-) -> Check
+) -> Result<(), Refusal>
     ensures { result
         ≡ first (lock_rules head table.now health.now
         script.now place held.now cell) }
 {
-    let lists = foreign::script_check(head, table, health, script, place, held);
-    match lists {
-        Check::Fault(refusal) => Check::Fault(refusal),
-        Check::Fine => lease::cell_fault(head, cell),
-    }
+    foreign::script_check(head, table, health, script, place, held)?;
+    lease::cell_fault(head, cell)
 }
 
 // The try_lock of a call that has taken nothing. Past the script's end it is the quiet one where the cell's header is
@@ -300,10 +256,16 @@ fn lock_alone(
         }
     }
     let taken = [[0; 2]; 64];
-    lock(scope, flow, table, health, script, held, &taken, 0, cell)
+    let holds = Holds {
+        held,
+        taken: &taken,
+        n: 0,
+    };
+    lock(scope, flow, table, health, script, &holds, cell)
 }
 
 // One try_lock of a call whose checks are fine.
+#[tactic(auto, unfolding(crate::specs::Model::lock_once_of))]
 fn lock_once(
     head: Head,
     table: &mut [u32],
@@ -325,21 +287,20 @@ fn lock_once(
     };
     let scope = foreign::scope_of(head, script);
     let locked = lock_alone(scope, flow, table, health, script, held, cell);
-    let after = locked.flow;
-    let answer = locked.answer;
     let run = Run {
-        flow: after,
+        flow: locked.flow,
         attempts: 1,
         boundaries: locked.boundaries,
         yields: 0,
     };
-    foreign::script_reply(head, run, lease::answer_of(head.boot, answer))
+    foreign::script_reply(head, run, lease::answer_of(head.boot, locked.answer))
 }
 
 // One attempt by cell, with up to three boundaries: Busy where somebody waits, or holds it, then with the owner's
 // serial. After the third boundary the health of the cell's header is read: 7 if it is poisoned, the lease given up,
 // its cell free, its serial spent. A lease given up because somebody waits then is Busy with its serial, which is spent
 // too, and its cell is free.
+#[tactic(auto, unfolding(model::specs::Calls::try_lock_of, crate::specs::Model::lock_once_of))]
 pub fn try_lock(
     head: Head,
     table: &mut [u32],
@@ -353,14 +314,14 @@ pub fn try_lock(
         ≡ (try_lock_of head table.old health.old
         script.now place held.now cell).seen }
 {
-    let check = lock_check(head, table, health, script, place, held, cell);
-    match check {
-        Check::Fault(refusal) => foreign::refuse_at_once(head, place, refusal),
-        Check::Fine => lock_once(head, table, health, script, place, held, cell),
+    match lock_check(head, table, health, script, place, held, cell) {
+        Err(refusal) => foreign::refuse_at_once(head, place, refusal),
+        Ok(()) => lock_once(head, table, health, script, place, held, cell),
     }
 }
 
-// The same, 7 with it: the leases of its held list stay live, whatever the script says.
+// The same, 7 with it, since document 01 names both (a): the leases of its held list stay live, whatever the script
+// says.
 pub fn other_mutex_preserves_leases(
     head: Head,
     table: &mut [u32],

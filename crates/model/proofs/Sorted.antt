@@ -1,6 +1,7 @@
 -- Document 02, L4: the order of the checks of `acquire_sorted_locks`.
 use Rattle.std.specs.Prelude.{ℕ, zero, suc, ◌+◌, ◌/◌, ◌≡◌, refl, List, [], ◌∷◌, ◌++◌, Bool, true, false, ltb, leb, eqb, length, get_or, take, drop, replicate, if◌then◌else◌}
 use Rattle.std.proofs.Common.{ap, ◌∙◌}
+use Rattle.types.specs.Checks.{Check, KeyCheck}
 use Rattle.model.specs.Log.{Made, gives, ◌>>=◌}
 use Rattle.model.specs.Arena.{cell_number, head_of, lease_of, bit_at, owner_at, waiters_at, set_cell, is_free, is_held, state_of, state_at, is_live, leases_of, holds_of, words_of, same_hold, is_in, head_fits, shape_fits, health_fits, registry_fits}
 use Rattle.model.specs.Refusals.{Rule, refuse◌carrying◌when◌, first, judge}
@@ -12,11 +13,7 @@ use Rattle.model.specs.Calls.{counts_of, script_reply, starting, refused_at_once
 use Rattle.model.proofs.Order.{numbers_of, stale_or, locks_order, numbers_append}
 use Rattle.types.specs.declared.Answer.{Answer}
 use Rattle.types.specs.declared.Answer.TheVariants.{Done, Cell, Granted, AllGranted, Busy, Refused, RefusedAt}
-use Rattle.types.specs.declared.Check.{Check}
-use Rattle.types.specs.declared.Check.TheVariants as check
 use Rattle.types.specs.declared.Head.{Head}
-use Rattle.types.specs.declared.KeyCheck.{KeyCheck}
-use Rattle.types.specs.declared.KeyCheck.TheVariants as key
 use Rattle.types.specs.declared.Hold.{Hold}
 use Rattle.types.specs.declared.ScriptReply.{ScriptReply}
 use Rattle.types.specs.declared.Refusal.{Refusal}

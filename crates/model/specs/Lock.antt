@@ -1,6 +1,7 @@
 -- Document 01, "The steps of a lock", with document 02, L1 and L3. They test nothing that a call has tested; the calls are in
 -- `Calls`.
-use Rattle.std.specs.Prelude.{ℕ, zero, suc, ◌+◌, ◌*◌, ◌%◌, List, [], ◌∷◌, ◌++◌, Bool, true, false, leb, eqb, length, get_or, take, if◌then◌else◌}
+use Rattle.std.specs.Prelude.{ℕ, zero, suc, ◌+◌, ◌*◌, ◌%◌, List, [], ◌∷◌, ◌++◌, Bool, true, false, leb, eqb, length, get_or, take, if◌then◌else◌, Ok, Err}
+use Rattle.types.specs.Checks.{Found}
 use Rattle.model.specs.Log.{Made, by_caller, attempt_begun, yielded, spun, took, released, gives, note, ◌>>=◌, ◌>>◌}
 use Rattle.model.specs.Arena.{serial_remains, cell_number, header_of, is_poisoned, waiters_at, set_cell, state_at, hold_of, lease_under, words_of}
 use Rattle.model.specs.Foreign.{Setting, protecting, flow_of, boundary_of}
@@ -8,8 +9,6 @@ use Rattle.types.specs.declared.Answer.{Answer}
 use Rattle.types.specs.declared.Answer.TheVariants as answer
 use Rattle.types.specs.declared.Ended.{Ended}
 use Rattle.types.specs.declared.Flow.{Flow}
-use Rattle.types.specs.declared.Found.{Found}
-use Rattle.types.specs.declared.Found.TheVariants as found
 use Rattle.types.specs.declared.Hold.{Hold}
 use Rattle.types.specs.declared.Locked.{Locked}
 use Rattle.types.specs.declared.Outcome.{Outcome}
@@ -113,15 +112,15 @@ tried_of r o = record { run = r; outcome = o }
 unfoldable pub find_of : ℕ → ℕ → List ℕ → List ℕ → ℕ → ℕ → Found
 find_of headers buckets g registry binding bucket =
     let header = get_or registry binding 0 in
-    if leb headers header then found.Fault (refusal.BadHeader header)
-    else if is_poisoned g header then found.Fault (refusal.Poisoned header)
-    else if leb buckets bucket then found.Fault (refusal.InvalidBucket bucket)
-    else found.At (cell_number buckets header bucket)
+    if leb headers header then Err (refusal.BadHeader header)
+    else if is_poisoned g header then Err (refusal.Poisoned header)
+    else if leb buckets bucket then Err (refusal.InvalidBucket bucket)
+    else Ok (cell_number buckets header bucket)
 
 -- "then `try_lock`"; "An attempt begins at the header reading"
 abbrev pub attempt_at : Found → Setting → ℕ → Run → List ℕ → List ℕ → Made (Tried × (List ℕ × List ℕ))
-attempt_at (found.Fault x) e buckets r t g = gives (tried_of (run_of r.flow (r.attempts + 1) r.boundaries r.yields) (outcome.Refused x), (t, g))
-attempt_at (found.At c) e buckets r t g = do
+attempt_at (Err x) e buckets r t g = gives (tried_of (run_of r.flow (r.attempts + 1) r.boundaries r.yields) (outcome.Refused x), (t, g))
+attempt_at (Ok c) e buckets r t g = do
   (k, a) ← lock_of e buckets r.flow t g c
   gives (tried_of (run_of k.flow (r.attempts + 1) (r.boundaries + k.boundaries) r.yields) k.answer, a)
 

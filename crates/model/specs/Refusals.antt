@@ -1,8 +1,7 @@
 -- Document 01, "Numbers of the refusals": the table, and how a list of checks comes to a refusal. The checks themselves are in `Checks`.
-use Rattle.std.specs.Prelude.{ℕ, List, [], ◌∷◌, Bool, eqb, if◌then◌else◌}
+use Rattle.std.specs.Prelude.{ℕ, List, [], ◌∷◌, Bool, eqb, if◌then◌else◌, Ok, Err}
+use Rattle.types.specs.Checks.{Check}
 pub use Rattle.types.specs.Numbers.{reason_number, reason_serial, number_of, carried_of}
-use Rattle.types.specs.declared.Check.{Check}
-use Rattle.types.specs.declared.Check.TheVariants.{Fine, Fault}
 use Rattle.types.specs.declared.Reason.{Reason}
 use Rattle.types.specs.declared.Reason.TheVariants as reason
 use Rattle.types.specs.declared.Refusal.{Refusal}
@@ -72,10 +71,10 @@ refusal_of number k = refusal_with reason.Before number k
 
 -- "Checks in this order; the first that applies is given, and only then."
 unfoldable pub first : List Rule → Check
-first [] = Fine
-first (r ∷ rs) = if r.applies then Fault (refusal_of r.number r.carries) else first rs
+first [] = Ok tt
+first (r ∷ rs) = if r.applies then Err (refusal_of r.number r.carries) else first rs
 
 -- a call: refused, or its steps
 abbrev pub judge : {A : Type 0} → Check → (Refusal → A) → A → A
-judge Fine refused steps = steps
-judge (Fault r) refused steps = refused r
+judge (Ok tt) refused steps = steps
+judge (Err r) refused steps = refused r

@@ -1,12 +1,12 @@
 -- Document 02, L6, "Salvage after a warm restart": the arena gone over with the head that its owner holds on paper. Nothing here is a
 -- boundary or a take, so there is no log.
-use Rattle.std.specs.Prelude.{ℕ, zero, suc, ◌+◌, ◌*◌, ◌/◌, ◌≡◌, refl, List, [], ◌∷◌, ◌++◌, Bool, ◌||◌, ltb, leb, eqb, length, drop, replicate, if◌then◌else◌}
+use Rattle.std.specs.Prelude.{ℕ, zero, suc, ◌+◌, ◌*◌, ◌/◌, ◌≡◌, refl, List, [], ◌∷◌, ◌++◌, Bool, ◌||◌, ltb, leb, eqb, length, drop, replicate, if◌then◌else◌, Ok, Err}
+use Rattle.types.specs.Checks.{SalvageAnswer}
+use Rattle.types.specs.declared.SalvageRefusal.TheVariants.{BadShape, ReportFull}
 use Rattle.model.specs.Arena.{cells_of, head_of, bit_at, owner_at, is_free, is_held, state_of, head_fits, shape_fits, health_fits}
 use Rattle.model.specs.Refusals.{first, judge}
 use Rattle.model.specs.Checks.{prepare_rules}
 use Rattle.types.specs.declared.Head.{Head}
-use Rattle.types.specs.declared.SalvageAnswer.{SalvageAnswer}
-use Rattle.types.specs.declared.SalvageAnswer.TheVariants.{Done, BadShape, ReportFull}
 use Rattle.types.specs.declared.SalvageReply.{SalvageReply}
 use Rattle.types.specs.declared.State.{State}
 use Rattle.types.specs.declared.State.TheVariants.{Free, Held, Damaged}
@@ -98,7 +98,7 @@ mend_of h t g report list =
 -- both numbers of entries, with the head as it was given
 abbrev pub salvaged_of : Head → List ℕ → List ℕ → List ℕ → List ℕ → Salvage
 salvaged_of h t g report list =
-    (concluded h (Done (entries_of h t g) (length (left_held h.next (cells_of h) t))), mend_of h t g report list)
+    (concluded h (Ok ((entries_of h t g), (length (left_held h.next (cells_of h) t)))), mend_of h t g report list)
 
 -- a refusal changes nothing
 abbrev pub unsalvaged : Head → List ℕ → List ℕ → List ℕ → List ℕ → SalvageAnswer → Salvage
@@ -107,12 +107,12 @@ unsalvaged h t g report list a = (concluded h a, (t, (g, (report, list))))
 -- "refuse ReportFull before the first change if the report or that list cannot hold all its entries"
 unfoldable pub go_over_of : Head → List ℕ → List ℕ → List ℕ → List ℕ → Salvage
 go_over_of h t g report list =
-    if is_report_full h t g report list then unsalvaged h t g report list ReportFull else salvaged_of h t g report list
+    if is_report_full h t g report list then unsalvaged h t g report list (Err ReportFull) else salvaged_of h t g report list
 
 -- "Given that head, go over the arena": "After BadShape"
 unfoldable pub salvage_of : Head → List ℕ → List ℕ → List ℕ → List ℕ → Salvage
 salvage_of h t g report list =
-    judge (first (prepare_rules h t g)) (λ r. unsalvaged h t g report list BadShape) (go_over_of h t g report list)
+    judge (first (prepare_rules h t g)) (λ r. unsalvaged h t g report list (Err BadShape)) (go_over_of h t g report list)
 
 -- ---- cases: two headers of three cells, the next serial 9
 
@@ -152,19 +152,19 @@ pub record Cases : Type 0 where
   pub doubled_kept : left_held 9 2 (1 ∷ 5 ∷ 0 ∷ 1 ∷ 5 ∷ 0 ∷ []) ≡ 0 ∷ 1 ∷ []
   -- the whole call; a report whose length is no multiple of 3 has room for 8 entries, and the words behind them stay
   pub called : salvage_of paper found sick (blank 26) (blank 3)
-      ≡ (concluded paper (Done 8 2), (mended, (0 ∷ 1 ∷ [], (entries ++ blank 2, 0 ∷ 4 ∷ 77 ∷ []))))
+      ≡ (concluded paper (Ok (8, 2)), (mended, (0 ∷ 1 ∷ [], (entries ++ blank 2, 0 ∷ 4 ∷ 77 ∷ []))))
   -- report and list exactly full
   pub just_fits : salvage_of paper found sick (blank 24) (blank 2)
-      ≡ (concluded paper (Done 8 2), (mended, (0 ∷ 1 ∷ [], (entries, 0 ∷ 4 ∷ []))))
+      ≡ (concluded paper (Ok (8, 2)), (mended, (0 ∷ 1 ∷ [], (entries, 0 ∷ 4 ∷ []))))
   -- one word short: ReportFull, and nothing has changed; the list one short: the same
-  pub report_short : salvage_of paper found sick (blank 23) (blank 2) ≡ unsalvaged paper found sick (blank 23) (blank 2) ReportFull
-  pub list_short : salvage_of paper found sick (blank 24) (blank 1) ≡ unsalvaged paper found sick (blank 24) (blank 1) ReportFull
+  pub report_short : salvage_of paper found sick (blank 23) (blank 2) ≡ unsalvaged paper found sick (blank 23) (blank 2) (Err ReportFull)
+  pub list_short : salvage_of paper found sick (blank 24) (blank 1) ≡ unsalvaged paper found sick (blank 24) (blank 1) (Err ReportFull)
   -- "After BadShape": a table or a health too short is that, whatever room there is
-  pub table_short : salvage_of paper (drop 1 found) sick [] [] ≡ unsalvaged paper (drop 1 found) sick [] [] BadShape
-  pub health_short : salvage_of paper found (0 ∷ []) [] [] ≡ unsalvaged paper found (0 ∷ []) [] [] BadShape
+  pub table_short : salvage_of paper (drop 1 found) sick [] [] ≡ unsalvaged paper (drop 1 found) sick [] [] (Err BadShape)
+  pub health_short : salvage_of paper found (0 ∷ []) [] [] ≡ unsalvaged paper found (0 ∷ []) [] [] (Err BadShape)
   -- "A second salvage reports no change.", and needs no report
   pub again : salvage_of paper mended (0 ∷ 1 ∷ []) [] (blank 2)
-      ≡ (concluded paper (Done 0 2), (mended, (0 ∷ 1 ∷ [], ([], 0 ∷ 4 ∷ []))))
+      ≡ (concluded paper (Ok (0, 2)), (mended, (0 ∷ 1 ∷ [], ([], 0 ∷ 4 ∷ []))))
 
 pub cases_hold : Cases
 unfolding bit_at owner_at is_free is_held state_of head_fits shape_fits health_fits first prepare_rules kept_of mended_cell mended_table mended_byte mended_health change_of changes_from changes_of held_from left_held over_of is_report_full mend_of go_over_of salvage_of

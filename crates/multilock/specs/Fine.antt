@@ -1,21 +1,19 @@
 -- The checks of multi-lock, one key at a time, and what is known once they are fine.
-use Rattle.std.specs.Prelude.{ℕ, zero, suc, ◌+◌, ◌*◌, ◌-◌, ◌≤◌, ◌<◌, ◌≡◌, List, [], ◌∷◌, not, ◌||◌, ltb, eqb, length}
-use Rattle.std.proofs.Common.{ap, ◌∙◌, arith, leb-false, ltb-false, eqb-true}
+use Rattle.std.specs.Prelude.{ℕ, zero, suc, ◌+◌, ◌*◌, ◌-◌, ◌≤◌, ◌<◌, ◌≡◌, List, [], ◌∷◌, not, ◌||◌, ltb, eqb, length, Ok}
+use Rattle.std.proofs.Common.{ap, arith, leb-false, ltb-false, eqb-true}
 use Rattle.std.proofs.Math.Decide.{ℕ_discrete}
 use Rattle.std.proofs.lemmas.Bool.{not-false}
 use Rattle.model.specs.Arena.{holds_of}
 use Rattle.model.specs.Refusals.{first}
-use Rattle.model.specs.Checks.{lease_count, count_in, is_odd, bad_shape, bad_health, bad_registry, bad_script, bad_held, too_many_keys, bad_binding, bad_bindings, locks_rules}
+use Rattle.model.specs.Checks.{lease_count, count_in, is_odd, too_many_keys, bad_binding, bad_bindings, locks_rules}
 use Rattle.model.specs.Lock.{binding_at, locks_of}
 use Rattle.model.specs.Calls.{starting, given, script_reply}
-use Rattle.types.specs.declared.Check.{Check}
-use Rattle.types.specs.declared.Check.TheVariants.{Fine}
 use Rattle.types.specs.declared.Head.{Head}
 use Rattle.types.specs.declared.Hold.{Hold}
 use Rattle.types.specs.declared.ScriptReply.{ScriptReply}
 use Rattle.types.specs.declared.Run.{Run}
 use Rattle.choice.specs.Pick.{neither}
-use Rattle.laws.specs.Checks.{or_else, first_append, first_two, fine_rest, fine_append}
+use Rattle.laws.specs.Checks.{or_else, first_two, fine_rest, fine_append}
 use Rattle.foreign.specs.Fine.{ScriptFine}
 use Rattle.bucket.specs.Fine.{key_rules, key_fine, fine_key}
 use Rattle.foreign.specs.declared.Scope.{Scope}
@@ -29,12 +27,12 @@ pub bindings_at : (n i : ℕ) (registry keys : List ℕ) → i < n
 unfolding bad_bindings
 bindings_at n i registry keys l = let k : n - i ≡ suc (n - (i + 1)) = omega arith in rw k (first_two _ _)
 
-pub bindings_end : (n i : ℕ) (registry keys : List ℕ) → n ≤ i → first (bad_bindings (n - i) i registry keys) ≡ Fine
+pub bindings_end : (n i : ℕ) (registry keys : List ℕ) → n ≤ i → first (bad_bindings (n - i) i registry keys) ≡ Ok tt
 unfolding bad_bindings first
 bindings_end n i registry keys l = let k : n - i ≡ 0 = omega arith in rw k
 
 -- every binding is inside, from position i on
-bindings_in : (left i : ℕ) (registry keys : List ℕ) → first (bad_bindings left i registry keys) ≡ Fine
+bindings_in : (left i : ℕ) (registry keys : List ℕ) → first (bad_bindings left i registry keys) ≡ Ok tt
     → (p : ℕ) → i ≤ p → p < i + left → binding_at keys p < length registry
 unfolding bad_bindings
 bindings_in zero i registry keys e p l h = absurd (omega arith)
@@ -48,14 +46,6 @@ bindings_in (suc left) i registry keys e p l h =
 
 -- ---- all checks
 
-pub locks_then : (h : Head) (t g registry script : List ℕ) (place : ℕ) (held keys grants : List ℕ)
-    → first (locks_rules h t g registry script place held keys grants)
-    ≡ or_else (first (key_rules h t g registry script place held)) (or_else (first (too_many_keys held keys grants ∷ [])) (first (bad_bindings (count_in keys) 0 registry keys)))
-unfolding locks_rules key_rules
-locks_then h t g registry script place held keys grants =
-    first_append (bad_shape h t ∷ bad_health h g ∷ bad_registry registry ∷ bad_script script place ∷ bad_held h t held) _
-    ∙ ap (λ (c : Check). or_else (first (bad_shape h t ∷ bad_health h g ∷ bad_registry registry ∷ bad_script script place ∷ bad_held h t held)) c) (first_two _ _)
-
 pub record LocksFine (h : Head) (words bytes script place : ℕ) (registry keys : List ℕ) (grants : ℕ) : Type 0 where
   pub script_ok : ScriptFine h words bytes script place
   pub few : count_in keys ≤ 64
@@ -63,7 +53,7 @@ pub record LocksFine (h : Head) (words bytes script place : ℕ) (registry keys 
   pub bound : (i : ℕ) → 2 * i + 1 < length keys → binding_at keys i < length registry
 
 pub locks_fine : (h : Head) (t g registry script : List ℕ) (place : ℕ) (held keys grants : List ℕ)
-    → first (locks_rules h t g registry script place held keys grants) ≡ Fine
+    → first (locks_rules h t g registry script place held keys grants) ≡ Ok tt
     → LocksFine h (length t) (length g) (length script) place registry keys (length grants)
 unfolding locks_rules key_rules
 locks_fine h t g registry script place held keys grants e =

@@ -1,11 +1,10 @@
 -- Keys that are free past the script's end: each is granted at its first attempt.
-use Rattle.std.specs.Prelude.{ℕ, ◌+◌, ◌*◌, ◌-◌, ◌≤◌, ◌<◌, ◌≡◌, refl, List, [], ◌∷◌, Bool, true, false, ◌&&◌, leb, eqb, get_or, length, set, if◌then◌else◌}
+use Rattle.std.specs.Prelude.{ℕ, ◌+◌, ◌*◌, ◌-◌, ◌≤◌, ◌<◌, ◌≡◌, refl, List, [], ◌∷◌, Bool, true, false, ◌&&◌, leb, eqb, get_or, length, set, if◌then◌else◌, Ok}
 use Rattle.std.proofs.Common.{sym, ap, ◌∙◌, arith, length-set, leb-false, ltb-true}
 use Rattle.choice.specs.Pick.{both}
 use Rattle.model.specs.Arena.{cell_number, is_poisoned, bit_at, owner_at, waiters_at, set_cell, is_free, state_of, state_at, serial_remains, last_serial, hold_of}
 use Rattle.model.specs.Foreign.{Setting, flow_of, steps_in, protecting}
 use Rattle.model.specs.Lock.{take_of, run_of, tried_of, find_of, none_yet, retry_of, binding_at, bucket_at, locks_of}
-use Rattle.types.specs.declared.Found.TheVariants as found
 use Rattle.types.specs.declared.Hold.{Hold}
 use Rattle.types.specs.declared.Outcome.TheVariants as outcome
 use Rattle.types.specs.declared.Run.{Run}
@@ -82,7 +81,7 @@ beside g k = (k.0, (k.1, g))
 
 module _ (e : Setting) (buckets : ℕ) (registry : List ℕ) (binding bucket : ℕ) (r : Run) (t g : List ℕ)
     (past : steps_in e.script ≤ r.flow.place) (o : Open e.headers buckets r.flow.next t g (get_or registry binding 0) bucket) where
-  open_found : find_of e.headers buckets g registry binding bucket ≡ found.At (cell_number buckets (get_or registry binding 0) bucket)
+  open_found : find_of e.headers buckets g registry binding bucket ≡ Ok (cell_number buckets (get_or registry binding 0) bucket)
   unfolding find_of
   open_found = rw (o.there, o.healthy, o.in_range)
 
@@ -91,7 +90,7 @@ module _ (e : Setting) (buckets : ℕ) (registry : List ℕ) (binding bucket : �
       ≡ (free_tried r (cell_number buckets (get_or registry binding 0) bucket), (set_cell t (cell_number buckets (get_or registry binding 0) bucket) 1 r.flow.next, g))
   open_retry n l =
       let c = cell_number buckets (get_or registry binding 0) bucket in
-      retry_quiet e buckets g registry binding bucket n (found.At c) r t l (sym open_found) past
+      retry_quiet e buckets g registry binding bucket n (Ok c) r t l (sym open_found) past
       ∙ ap (beside g) (free_retry c r t o.unwaited o.free o.remains n l)
 
 -- ---- the first keys
@@ -189,10 +188,6 @@ none_freed s next n registry keys t g a l k = record { noted = none_noted s next
 
 pub none_begun : (s : Scope) (r : Run) (n : ℕ) (registry keys t g : List ℕ) (a : List (List ℕ)) → r.flow.next ≤ last_serial → length a ≡ 64 → Begun s r n registry keys t g 0 a t
 none_begun s r n registry keys t g a l k = record { noted = none_noted s r.flow.next n t a l k; rest = λ script ps grants e. rest_none s script ps grants r n registry keys t g a }
-
-pub freed_begun : (s : Scope) (r : Run) (n : ℕ) (registry keys t₀ g : List ℕ) (p : ℕ) (a : List (List ℕ)) (t : List ℕ) → s.steps ≤ r.flow.place
-    → Freed s r.flow.next n registry keys t₀ g p a t → Begun s r n registry keys t₀ g p a t
-freed_begun s r n registry keys t₀ g p a t l f = record { noted = f.noted; rest = λ script ps grants e. f.rest script ps grants r refl (omega (arith, e)) }
 
 -- one more
 module _ (s : Scope) (words bytes : ℕ) (fits : FreeFits s words bytes) (next n : ℕ) (registry keys t₀ g : List ℕ) (p : ℕ) (a : List (List ℕ)) (t : List ℕ) where

@@ -1,19 +1,18 @@
 -- Laws of multi-lock: the array of pairs as a list of leases, one key, one lease given back, the grant buffer, and what the counts keep.
 use Prim.Native.Nat.{ℕ, zero, suc, ◌+◌, ◌*◌, ◌-◌, ◌/◌, ◌≤◌, ◌<◌}
 use Rattle.std.proofs.Math.Path.{◌≡◌}
-use Rattle.std.specs.Prelude.{refl, ◌≢◌, length, get_or, set, take, drop}
+use Rattle.std.specs.Prelude.{refl, ◌≢◌, length, get_or, set, take, drop, Ok, Err}
 use Rattle.std.proofs.Common.{sym, ap, subst, ◌∙◌, get_or-set_same, get_or-set_other}
 use mathlib.Core.List.{List, [], ◌∷◌, ◌++◌, append_assoc}
 use native.Mathlib.Omega.{arith}
 use Rattle.std.proofs.Math.Decide.{ℕ_discrete}
+use Rattle.types.specs.Checks.{Found}
 use Rattle.model.specs.Log.{Made}
 use Rattle.model.specs.Arena.{hold_of, holds_of, words_of}
 use Rattle.model.specs.Foreign.{Setting, setting, protecting, steps_in}
 use Rattle.model.specs.Lock.{find_of, attempt_at, attempt_of, pause_of, is_busy, last_of, none_yet, retry_of, give_back_of, ended_of, rollback_of, after_key, locks_of, binding_at, bucket_at, Locks, hold_at}
 use Rattle.types.specs.declared.Answer.TheVariants as answer
 use Rattle.types.specs.declared.Ended.{Ended}
-use Rattle.types.specs.declared.Found.{Found}
-use Rattle.types.specs.declared.Found.TheVariants as found
 use Rattle.types.specs.declared.Hold.{Hold}
 use Rattle.types.specs.declared.Outcome.{Outcome}
 use Rattle.types.specs.declared.Outcome.TheVariants as outcome
@@ -106,9 +105,9 @@ module _ (e : Setting) (buckets : ℕ) (registry : List ℕ) (binding bucket : �
   within_at c g o damaged h l q = let y : ◌≡◌ {A = ℕ} 0 1 = cc in absurd (omega arith)
   within_at c g o spent h l q = let y : ◌≡◌ {A = ℕ} 0 1 = cc in absurd (omega arith)
 
-  within_attempt : (k : Found) (r : Run) (t g : List ℕ) → ((c : ℕ) → k ≡ found.At c → c < e.headers * buckets) → Within (attempt_at k e buckets r t g).seen.0.outcome
-  within_attempt (found.Fault x) r t g h l q = let y : ◌≡◌ {A = ℕ} 0 1 = cc in absurd (omega arith)
-  within_attempt (found.At c) r t g h l q = within_at c _ _ (lock_comes e buckets c r.flow t g) (h c refl) l q
+  within_attempt : (k : Found) (r : Run) (t g : List ℕ) → ((c : ℕ) → k ≡ Ok c → c < e.headers * buckets) → Within (attempt_at k e buckets r t g).seen.0.outcome
+  within_attempt (Err x) r t g h l q = let y : ◌≡◌ {A = ℕ} 0 1 = cc in absurd (omega arith)
+  within_attempt (Ok c) r t g h l q = within_at c _ _ (lock_comes e buckets c r.flow t g) (h c refl) l q
 
   retry_within : (left i : ℕ) (last : Reason) (r : Run) (t g : List ℕ) → Within (retry_of left i last e buckets registry binding bucket r t g).seen.0.outcome
   unfolding retry_of attempt_of
@@ -211,17 +210,6 @@ words_more boot i a b l =
 pub record Bound (s : Scope) (words bytes script : ℕ) (registry keys : List ℕ) : Type 0 where
   pub key : KeyFits s words bytes 64 script 1 0
   pub bound : (i : ℕ) → 2 * i + 1 < length keys → binding_at keys i < length registry
-
--- the key at a position
-pub bound_key : (s : Scope) (words bytes script : ℕ) (registry keys : List ℕ) (p : ℕ) → p < 64 → 2 * p + 1 < length keys
-    → Bound s words bytes script registry keys → KeyFits s words bytes p script (length registry) (binding_at keys p)
-bound_key s words bytes script registry keys p l k b =
-    record {
-      room = record { words_fit = b.key.room.words_fit; bytes_fit = b.key.room.bytes_fit; few_taken = omega arith; steps_are = b.key.room.steps_are };
-      fit = b.key.fit;
-      cells_are = b.key.cells_are;
-      bound = b.bound p k;
-    }
 
 -- lengths do not change
 pub bound_for : {s : Scope} {words words₀ bytes bytes₀ script : ℕ} {registry keys : List ℕ} → words ≡ words₀ → bytes ≡ bytes₀

@@ -11,35 +11,27 @@ use foreign::Scope;
 use types::{Flow, Run};
 
 // Whether an attempt gets this cell: nobody waits, it is free, and a serial remains.
+#[tactic(auto, unfolding(crate::specs::Free::is_open_at))]
 fn is_open_at(next: u32, table: &[u32], cell: u32) -> bool
     requires { 3 * cell + 2 < length table.now }
     ensures { result ≡ is_open_at next table.now cell }
 {
-    if arena::waiters_at(table, cell) == 0 {
-        if arena::is_free(table, cell) {
-            return types::serial_remains(next);
-        }
-        return false;
-    }
-    false
+    arena::waiters_at(table, cell) == 0
+        && arena::is_free(table, cell)
+        && types::serial_remains(next)
 }
 
 // Whether an attempt by key gets one: its header is there and healthy, its bucket in range, and its cell open.
+#[tactic(auto, unfolding(crate::specs::Free::is_open))]
 fn is_open(scope: Scope, next: u32, table: &[u32], health: &[u8], header: u32, bucket: u32) -> bool
     requires { FreeFits scope (length table.now) (length health.now) }
     ensures { result
         ≡ is_open scope.headers scope.buckets next table.now health.now header bucket }
 {
-    if scope.headers <= header {
-        return false;
-    }
-    if health[header as usize] != 0 {
-        return false;
-    }
-    if scope.buckets <= bucket {
-        return false;
-    }
-    is_open_at(next, table, header * scope.buckets + bucket)
+    header < scope.headers
+        && health[header as usize] == 0
+        && bucket < scope.buckets
+        && is_open_at(next, table, header * scope.buckets + bucket)
 }
 
 // The keys before the first that is not open, taken and noted; how many they are.
@@ -59,22 +51,19 @@ fn take_free(
         table.old health.now result taken.new table.new }
 {
     let mut serial = next;
-    let mut p = 0;
-    while p < n {
+    for p in 0..n {
         let binding = keys[2 * p];
         let bucket = keys[2 * p + 1];
         let header = registry[binding as usize];
-        if is_open(scope, serial, table, health, header, bucket) {
-            let cell = header * scope.buckets + bucket;
-            arena::set_cell(table, cell, 1, serial);
-            taken[p] = [cell, serial];
-            serial += 1;
-            p += 1;
-        } else {
+        if !is_open(scope, serial, table, health, header, bucket) {
             return p;
         }
+        let cell = header * scope.buckets + bucket;
+        arena::set_cell(table, cell, 1, serial);
+        taken[p] = [cell, serial];
+        serial += 1;
     }
-    p
+    n
 }
 
 // The same before a script's end too: there, none.
@@ -109,11 +98,10 @@ pub fn freed(start: Run, p: usize) -> Run
     Run {
         flow: Flow {
             next: flow.next + p as u32,
-            place: flow.place,
-            dropped: flow.dropped,
+            ..flow
         },
         attempts: start.attempts + p,
         boundaries: start.boundaries + 3 * p,
-        yields: start.yields,
+        ..start
     }
 }

@@ -1,6 +1,6 @@
 // Multi-lock: `acquire_index_locks`, all keys or none.
-// The leases taken so far stand in an array of sixty-four pairs, passed by value with a count; a refusal rolls it back
-// from the end.
+// A refusal rolls what was taken back from the end. (a) It stays an array with a count beside it: document 01
+// "passes [[u32; 2]; 64] by value with a count", and there is no heap.
 // Functions with a `requires` are parts: calls have tested the shape, and a part tests nothing twice.
 // Parts are no calls of document 01, public ones neither: only the layers here call them (tests/layers.sh), and each
 // caller proves their `requires`.
@@ -17,11 +17,12 @@ ghost use Rattle.multilock.specs.Fine.{LocksFine, locks_once_of};
 
 use checks::locks_check;
 use keys::lock_keys;
-use types::{Check, Head, ScriptReply};
+use types::{Head, ScriptReply};
 
 // ---- the call
 
 // What a call does whose checks are fine.
+#[tactic(auto, unfolding(crate::specs::Fine::locks_once_of))]
 fn locks_once(
     head: Head,
     table: &mut [u32],
@@ -45,14 +46,13 @@ fn locks_once(
     let ended = lock_keys(
         scope, start, table, health, script, held, registry, keys, n, grants,
     );
-    let run = ended.run;
-    let answer = ended.answer;
-    foreign::script_reply(head, run, answer)
+    foreign::script_reply(head, ended.run, ended.answer)
 }
 
 // The keys in the order given, all or none. A refusal at a position gives back all that was taken, last first, and
 // leaves the grant buffer as it was; 11 has the reason of that key's last attempt. On a grant the buffer has cell,
 // serial and boot number of each key, in key order.
+#[tactic(auto, unfolding(model::specs::Calls::acquire_locks_of, crate::specs::Fine::locks_once_of))]
 pub fn acquire_index_locks(
     head: Head,
     table: &mut [u32],
@@ -68,12 +68,11 @@ pub fn acquire_index_locks(
         ≡ (acquire_locks_of head table.old health.old registry.now
         script.now place held.now keys.now grants.old).seen }
 {
-    let check = locks_check(
+    match locks_check(
         head, table, health, registry, script, place, held, keys, grants,
-    );
-    match check {
-        Check::Fault(refusal) => foreign::refuse_at_once(head, place, refusal),
-        Check::Fine => locks_once(
+    ) {
+        Err(refusal) => foreign::refuse_at_once(head, place, refusal),
+        Ok(()) => locks_once(
             head, table, health, registry, script, place, held, keys, grants,
         ),
     }

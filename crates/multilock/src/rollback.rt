@@ -9,10 +9,11 @@ ghost use Rattle.bucket.specs.Bounds.{call_most};
 ghost use Rattle.bucket.specs.Laws.{RunBound};
 ghost use Rattle.multilock.specs.Locks.{roll_back_of};
 
-use foreign::Scope;
+use foreign::{Holds, Scope};
 use types::{Answer, Ended, Refusal, Run};
 
 // Last first; the pairs before the one released stay protected.
+// (d) Beside `give_back` of `release`: pairs are given back here, and words of a list there.
 fn give_pairs(
     scope: Scope,
     start: Run,
@@ -30,17 +31,20 @@ fn give_pairs(
         start table.old health.old).seen }
 {
     let mut run = start;
-    let mut k = n;
-    while 0 < k {
-        k -= 1;
+    for k in (0..n).rev() {
         let cell = taken[k][0];
-        let after = release::give_one(scope, run, table, health, script, held, &taken, k, cell);
-        run = after;
+        let before = Holds {
+            held,
+            taken: &taken,
+            n: k,
+        };
+        run = release::give_one(scope, run, table, health, script, &before, cell);
     }
     run
 }
 
 // A refusal at a position: everything taken is given back.
+#[tactic(auto, unfolding(crate::specs::Locks::roll_back_of))]
 pub fn roll_back(
     scope: Scope,
     run: Run,

@@ -1,5 +1,5 @@
 -- The checks of crate `model` are those of `Checks`: each applies exactly if its condition in plain numbers holds, and gives the same refusal.
-use Rattle.std.specs.Prelude.{ℕ, zero, suc, ◌+◌, ◌*◌, ◌/◌, ◌%◌, ◌≤◌, ◌<◌, ◌≡◌, refl, List, [], ◌∷◌, ◌++◌, Bool, true, false, not, ◌&&◌, ◌||◌, ◌⊎◌, ◌≢◌, ltb, leb, eqb, length, get_or, take, if◌then◌else◌}
+use Rattle.std.specs.Prelude.{ℕ, zero, suc, ◌+◌, ◌*◌, ◌/◌, ◌%◌, ◌≤◌, ◌<◌, ◌≡◌, refl, List, [], ◌∷◌, ◌++◌, Bool, true, false, not, ◌&&◌, ◌||◌, ◌⊎◌, ◌≢◌, ltb, leb, eqb, length, get_or, take, if◌then◌else◌, Err}
 use Rattle.std.proofs.Common.{sym, ap, ◌∙◌, subst, append-nil, inl, inr, arith, ltb-true, ltb-false, leb-true, leb-false, eqb-true, eq-eqb, lt-ltb, le-ltb, le-leb}
 use Rattle.std.proofs.lemmas.Bool.{eqb-false, not-true, not-false}
 use Rattle.choice.specs.Pick.{both, neither}
@@ -7,7 +7,6 @@ use Rattle.model.specs.Arena.{bit_at, owner_at, is_live, is_in, hold_in, hold_of
 use Rattle.model.specs.Refusals.{Rule, refusal_of, first}
 use Rattle.model.specs.Checks.{bad_held, bad_cell, stale_boot, not_held, is_protected, bad_binding, too_many_leases, too_many_keys, not_live, not_releasable, bad_bindings, cell_rules, lease_rules, held_cell_rules, held_lease_rules, script_rules, lock_rules, bucket_rules, release_rules, locks_rules}
 use Rattle.model.specs.Crew.{total, start_of, all_within, rises_from, bad_lists, bad_turns, crew_rules, crew_at_work_rules, plan_rules, list_of}
-use Rattle.types.specs.declared.Check.TheVariants.{Fault}
 use Rattle.types.specs.declared.Head.{Head}
 use Rattle.types.specs.declared.Hold.{Hold}
 use Rattle.types.specs.declared.Lease.{Lease}
@@ -22,16 +21,16 @@ use Rattle.pinned.specs.Words.{Shape, IsLive, StandsIn, size, holds}
 use Rattle.pinned.specs.Checks.{Checks, pass, ◌refuses◌else◌, First, Passed, checks, each_held, held_list, bindings, in_range, one_lease, not_in, each_given, lease_list, key_list, lists, each_turn, crew_is, cells_of_lem, sum, Limits, Rises}
 use Rattle.pinned.specs.Decided.{Decides, Matches}
 
-pub first_is : (xs : List Rule) (cs : Checks) (r : Refusal) → Matches xs cs → First cs r → first xs ≡ Fault r
+pub first_is : (xs : List Rule) (cs : Checks) (r : Refusal) → Matches xs cs → First cs r → first xs ≡ Err r
 unfolding first
 first_is [] pass r m f = absurd f
 first_is [] (C refuses x else cs) r m f = absurd m
 first_is (x ∷ xs) pass r m f = absurd m
 first_is (x ∷ xs) (C refuses y else cs) r m f = go x.applies refl f (first_is xs cs r m.2)
   where
-    go : (b : Bool) → x.applies ≡ b → First (C refuses y else cs) r → (First cs r → first xs ≡ Fault r)
-        → (if b then Fault (refusal_of x.number x.carries) else first xs) ≡ Fault r
-    go true e (inl f) k = ap (λ (z : Refusal). Fault z) (m.1 ∙ sym f.1)
+    go : (b : Bool) → x.applies ≡ b → First (C refuses y else cs) r → (First cs r → first xs ≡ Err r)
+        → (if b then Err (refusal_of x.number x.carries) else first xs) ≡ Err r
+    go true e (inl f) k = ap (λ (z : Refusal). Err z) (m.1 ∙ sym f.1)
     go true e (inr f) k = absurd (f.0 (m.0.0 e))
     go false e (inl f) k = absurd (m.0.1 e f.0)
     go false e (inr f) k = k f.1

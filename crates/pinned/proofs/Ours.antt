@@ -1,11 +1,12 @@
 -- Ours meets it.
 use Prim.Native.Nat.{ℕ, zero, suc, ◌+◌, ◌*◌, ◌/◌, ◌<◌}
-use Rattle.std.specs.Prelude.{◌≡◌, Bool, false, not, leb, eqb, length, set, take, if◌then◌else◌}
+use Rattle.std.specs.Prelude.{◌≡◌, Bool, false, not, leb, eqb, length, set, take, if◌then◌else◌, Ok, Err}
 use Rattle.std.proofs.Math.Path.{refl, sym, ap, subst}
 use Rattle.std.proofs.Common.{◌∙◌, inl, inr, zero-add, suc-mul, mul-le-mul_right, arith}
 use mathlib.Core.List.{List, [], ◌∷◌, ◌++◌, append-nil}
 use Rattle.std.proofs.Math.Bool.{true}
 use Rattle.std.proofs.Math.ListN.{get_or, length-set}
+use Rattle.types.specs.Checks.{Found}
 use borrow.Author.Tests.{eqb-true, eqb-false, leb-true, leb-false, lt-leb, not-false}
 use Rattle.model.specs.Log.{Made, Event, attempt_begun, by_caller, released, gives}
 use Rattle.model.specs.Arena.{spent_to, cells_of, bit_at, owner_at, state_at, is_live, set_cell, holds_of, hold_in, words_of}
@@ -16,9 +17,6 @@ use Rattle.model.specs.Calls.{given, starting, acquire_of}
 use Rattle.model.specs.Crew.{rests, adds, crew_start}
 use Rattle.types.specs.declared.Answer.{Answer}
 use Rattle.types.specs.declared.Answer.TheVariants.{Done, Cell, Granted, AllGranted, Busy, Refused, RefusedAt}
-use Rattle.types.specs.declared.Check.TheVariants.{Fault}
-use Rattle.types.specs.declared.Found.{Found}
-use Rattle.types.specs.declared.Found.TheVariants as found
 use Rattle.types.specs.declared.Hold.{Hold}
 use Rattle.types.specs.declared.Lease.{Lease}
 use Rattle.types.specs.declared.Reason.{Reason}
@@ -221,7 +219,7 @@ module _ (w : World) where
           ) (attempt_begun ∷ n.log)
 
       go : (x y z : Bool) → leb w.head.headers header ≡ x → eqb (get_or w.health header 0) 0 ≡ y → leb w.head.buckets bucket ≡ z
-          → ByKey perform w registry script place held binding bucket (made_at (if x then found.Fault (BadHeader header) else if not y then found.Fault (Poisoned header) else if z then found.Fault (InvalidBucket bucket) else found.At (header * w.head.buckets + bucket)))
+          → ByKey perform w registry script place held binding bucket (made_at (if x then Err (BadHeader header) else if not y then Err (Poisoned header) else if z then Err (InvalidBucket bucket) else Ok (header * w.head.buckets + bucket)))
       go true y z e f g = inl (leb-true w.head.headers header e, refl)
       go false false z e f g = inr ((λ l. let i = leb-false w.head.headers header e in omega arith), inl (eqb-false _ 0 f, refl))
       go false true true e f g =

@@ -1,15 +1,15 @@
 -- The salvage: ours is as `Statements` says, and nothing else is.
-use Rattle.std.specs.Prelude.{ℕ, zero, suc, ◌+◌, ◌*◌, ◌/◌, ◌≤◌, ◌<◌, ◌≡◌, refl, List, [], ◌∷◌, ◌++◌, Bool, true, false, not, ◌&&◌, ◌||◌, ◌⊎◌, ◌≢◌, ltb, leb, eqb, length, get_or, if◌then◌else◌}
+use Rattle.std.specs.Prelude.{ℕ, zero, suc, ◌+◌, ◌*◌, ◌/◌, ◌≤◌, ◌<◌, ◌≡◌, refl, List, [], ◌∷◌, ◌++◌, Bool, true, false, not, ◌&&◌, ◌||◌, ◌⊎◌, ◌≢◌, ltb, leb, eqb, length, get_or, if◌then◌else◌, Ok, Err}
 use Rattle.std.proofs.Common.{sym, ◌∙◌, inl, inr, arith, ltb-true, leb-true, leb-false, eqb-true, eq-eqb, le-leb, lt-ltb}
 use Rattle.std.proofs.lemmas.Bool.{eqb-false}
+use Rattle.types.specs.Checks.{Check}
+use Rattle.types.specs.declared.SalvageRefusal.TheVariants as salvaged
 use Rattle.choice.specs.Pick.{both}
 use Rattle.model.specs.Arena.{bit_at, owner_at, is_held, shape_fits, health_fits}
 use Rattle.model.specs.Refusals.{first, judge}
 use Rattle.model.specs.Checks.{prepare_rules}
 use Rattle.model.specs.Salvage.{kept_in, kept_of, mended_cell, mended_table, mended_byte, mended_health, change_of, changes_from, changes_of, held_from, left_held, over_of, is_report_full, mend_of, go_over_of, salvage_of}
-use Rattle.types.specs.declared.Check.{Check}
 use Rattle.types.specs.declared.Head.{Head}
-use Rattle.types.specs.declared.SalvageAnswer.TheVariants as salvaged
 use Rattle.types.specs.declared.SalvageReply.{SalvageReply}
 use Rattle.types.specs.declared.State.{State}
 use Rattle.history.specs.Tests.{Stands, stands, is_free_lem, is_held_lem, is_damaged, if_cases, differ}
@@ -119,26 +119,26 @@ salvages h t g report list =
     Out = SalvageReply × (List ℕ × (List ℕ × (List ℕ × List ℕ)))
 
     judged : Check → Out
-    judged k = judge k (λ r. (concluded h salvaged.BadShape, (t, (g, (report, list))))) (go_over_of h t g report list)
+    judged k = judge k (λ r. (concluded h (Err salvaged.BadShape), (t, (g, (report, list))))) (go_over_of h t g report list)
 
     R : Out → Type 0
     R =
-        If◌Then◌Else◌ ((length report / 3 < length xs / 3) ⊎ (length list < length cs)) (Is (concluded h salvaged.ReportFull, (t, (g, (report, list)))))
-        (Is (concluded h (salvaged.Done (length xs / 3) (length cs)), (u, (v, (over xs report, over cs list)))))
+        If◌Then◌Else◌ ((length report / 3 < length xs / 3) ⊎ (length list < length cs)) (Is (concluded h (Err salvaged.ReportFull), (t, (g, (report, list)))))
+        (Is (concluded h (Ok ((length xs / 3), (length cs))), (u, (v, (over xs report, over cs list)))))
 
     Q : Out → Type 0
     Q =
-        If◌Then◌Else◌ (length g ≢ h.headers) (Is (concluded h salvaged.BadShape, (t, (g, (report, list)))))
+        If◌Then◌Else◌ (length g ≢ h.headers) (Is (concluded h (Err salvaged.BadShape), (t, (g, (report, list)))))
         (With (Mends h.next t) λ u.
         With (MendsBytes g) λ v.
         With (Changes 0 t u) λ x.
         With (Changes (3 * (h.headers * h.buckets)) g v) λ y.
         With (LeftHeld h.next (h.headers * h.buckets) 0 u) λ cs.
-        If◌Then◌Else◌ ((length report / 3 < length (x ++ y) / 3) ⊎ (length list < length cs)) (Is (concluded h salvaged.ReportFull, (t, (g, (report, list)))))
-        (Is (concluded h (salvaged.Done (length (x ++ y) / 3) (length cs)), (u, (v, (over (x ++ y) report, over cs list))))))
+        If◌Then◌Else◌ ((length report / 3 < length (x ++ y) / 3) ⊎ (length list < length cs)) (Is (concluded h (Err salvaged.ReportFull), (t, (g, (report, list)))))
+        (Is (concluded h (Ok ((length (x ++ y) / 3), (length cs))), (u, (v, (over (x ++ y) report, over cs list))))))
 
     P : Out → Type 0
-    P = If◌Then◌Else◌ (Shape h (length t) → ⊥) (Is (concluded h salvaged.BadShape, (t, (g, (report, list))))) Q
+    P = If◌Then◌Else◌ (Shape h (length t) → ⊥) (Is (concluded h (Err salvaged.BadShape), (t, (g, (report, list))))) Q
 
 -- ---- one answer only
 

@@ -1,11 +1,12 @@
 -- Ours meets what is said of `acquire_sorted_locks`.
 use Prim.Native.Nat.{ℕ, zero, suc, ◌+◌, ◌*◌, ◌/◌}
-use Rattle.std.specs.Prelude.{◌≡◌, List, [], ◌∷◌, true, false, leb, eqb, length, get_or, replicate, if◌then◌else◌}
+use Rattle.std.specs.Prelude.{◌≡◌, List, [], ◌∷◌, true, false, leb, eqb, length, get_or, replicate, if◌then◌else◌, Ok, Err}
 use Rattle.std.proofs.Math.Path.{refl}
 use Rattle.std.proofs.Common.{sym, ap, ◌∙◌, subst, inl, inr, arith, eqb-true, leb-true, leb-false}
 use Rattle.std.proofs.Math.Bool.{Bool}
 use Rattle.std.proofs.lemmas.List.{length-replicate}
 use Rattle.std.proofs.lemmas.Bool.{eqb-false}
+use Rattle.types.specs.Checks.{KeyCheck}
 use Rattle.model.specs.Log.{Made, Event}
 use Rattle.model.specs.Arena.{holds_of}
 use Rattle.model.specs.Refusals.{first}
@@ -13,11 +14,8 @@ use Rattle.model.specs.Sorted.{cells_from, cells_asked, cells_sorted, sorted_of,
 use Rattle.model.specs.Lock.{bucket_at}
 use Rattle.types.specs.declared.Answer.{Answer}
 use Rattle.types.specs.declared.Answer.TheVariants.{Done, Cell, Granted, AllGranted, Busy, Refused, RefusedAt}
-use Rattle.types.specs.declared.Check.TheVariants as check
 use Rattle.types.specs.declared.Counts.{Counts}
 use Rattle.types.specs.declared.Hold.{Hold}
-use Rattle.types.specs.declared.KeyCheck.{KeyCheck}
-use Rattle.types.specs.declared.KeyCheck.TheVariants as key
 use Rattle.types.specs.declared.Refusal.{Refusal}
 use Rattle.types.specs.declared.Refusal.TheVariants.{BadHeader, InvalidBucket}
 use Rattle.laws.specs.Sorting.{sorted_is}
@@ -88,7 +86,7 @@ module _ (w : World) (registry script : List ℕ) (place : ℕ) (held keys grant
   abbrev S : Made (World × Says)
   S = perform w (acquire_sorted registry script place held keys grants)
 
-  by_sorted : Clear (rules w (acquire_sorted registry script place held keys grants)) → first_key (length keys / 2) 0 w.head registry keys ≡ key.Fine
+  by_sorted : Clear (rules w (acquire_sorted registry script place held keys grants)) → first_key (length keys / 2) 0 w.head registry keys ≡ Ok tt
       → BySorted perform w registry script place held keys grants (cells_asked w.head.buckets registry keys) S
   by_sorted k f =
       let cs = cells_asked w.head.buckets registry keys in
@@ -127,8 +125,8 @@ module _ (w : World) (registry script : List ℕ) (place : ℕ) (held keys grant
 
   -- position by position: what is left decides, as the definition's own tests do
   first_so : (left p : ℕ) (x : Made (World × Says))
-      → ((r : Refusal) (q : ℕ) → first_key left p w.head registry keys ≡ key.FaultAt r q → x ≡ logged (w, says (RefusedAt r q) (counted 0 0 0 0) place grants) [])
-      → (first_key left p w.head registry keys ≡ key.Fine → BySorted perform w registry script place held keys grants (cells_asked_lem (length keys / 2) 0 w.head.buckets registry keys) x)
+      → ((r : Refusal) (q : ℕ) → first_key left p w.head registry keys ≡ Err (r, q) → x ≡ logged (w, says (RefusedAt r q) (counted 0 0 0 0) place grants) [])
+      → (first_key left p w.head registry keys ≡ Ok tt → BySorted perform w registry script place held keys grants (cells_asked_lem (length keys / 2) 0 w.head.buckets registry keys) x)
       → AnyOrder perform w registry script place held keys grants left p x
   unfolding AnyOrder first_key first
   first_so zero p x f g = g refl
@@ -137,15 +135,15 @@ module _ (w : World) (registry script : List ℕ) (place : ℕ) (held keys grant
     where
       next_of : Bool → Bool → KeyCheck → KeyCheck
       next_of a b more =
-          fault_at (if a then check.Fault (BadHeader (header_of_key registry keys p)) else if b then check.Fault (InvalidBucket (bucket_at keys p)) else check.Fine) p more
+          fault_at (if a then Err (BadHeader (header_of_key registry keys p)) else if b then Err (InvalidBucket (bucket_at keys p)) else (Ok tt)) p more
 
       go : (a b : Bool) → leb w.head.headers (header_of_key registry keys p) ≡ a → leb w.head.buckets (bucket_at keys p) ≡ b
           → (more : KeyCheck) → first_key left (p + 1) w.head registry keys ≡ more
-          → (((r : Refusal) (q : ℕ) → first_key left (p + 1) w.head registry keys ≡ key.FaultAt r q → x ≡ logged (w, says (RefusedAt r q) (counted 0 0 0 0) place grants) [])
-          → (first_key left (p + 1) w.head registry keys ≡ key.Fine → BySorted perform w registry script place held keys grants (cells_asked_lem (length keys / 2) 0 w.head.buckets registry keys) x)
+          → (((r : Refusal) (q : ℕ) → first_key left (p + 1) w.head registry keys ≡ Err (r, q) → x ≡ logged (w, says (RefusedAt r q) (counted 0 0 0 0) place grants) [])
+          → (first_key left (p + 1) w.head registry keys ≡ Ok tt → BySorted perform w registry script place held keys grants (cells_asked_lem (length keys / 2) 0 w.head.buckets registry keys) x)
           → AnyOrder perform w registry script place held keys grants left (p + 1) x)
-          → ((r : Refusal) (q : ℕ) → next_of a b more ≡ key.FaultAt r q → x ≡ logged (w, says (RefusedAt r q) (counted 0 0 0 0) place grants) [])
-          → (next_of a b more ≡ key.Fine → BySorted perform w registry script place held keys grants (cells_asked_lem (length keys / 2) 0 w.head.buckets registry keys) x)
+          → ((r : Refusal) (q : ℕ) → next_of a b more ≡ Err (r, q) → x ≡ logged (w, says (RefusedAt r q) (counted 0 0 0 0) place grants) [])
+          → (next_of a b more ≡ Ok tt → BySorted perform w registry script place held keys grants (cells_asked_lem (length keys / 2) 0 w.head.buckets registry keys) x)
           → AnyOrder perform w registry script place held keys grants (suc left) p x
       go true b e i more m r f g = inl (leb-true w.head.headers (header_of_key registry keys p) e, f (BadHeader (header_of_key registry keys p)) p refl)
       go false true e i more m r f g =

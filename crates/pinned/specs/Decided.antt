@@ -7,7 +7,6 @@ use Rattle.model.specs.Arena.{bit_at, owner_at, is_live, is_in, hold_in, hold_of
 use Rattle.model.specs.Refusals.{Rule, refusal_of, first}
 use Rattle.model.specs.Checks.{bad_held, bad_cell, stale_boot, not_held, is_protected, bad_binding, too_many_leases, too_many_keys, not_live, not_releasable, bad_bindings, cell_rules, lease_rules, held_cell_rules, held_lease_rules, script_rules, lock_rules, bucket_rules, release_rules, locks_rules}
 use Rattle.model.specs.Crew.{total, start_of, all_within, rises_from, bad_lists, bad_turns, crew_rules, crew_at_work_rules, plan_rules, list_of}
-use Rattle.types.specs.declared.Check.TheVariants.{Fault}
 use Rattle.types.specs.declared.Head.{Head}
 use Rattle.types.specs.declared.Hold.{Hold}
 use Rattle.types.specs.declared.Lease.{Lease}

@@ -2,7 +2,9 @@
 -- beyond its checks, what each call is: in the steps of `Steps`, or as smaller calls of the same build, in their order. Each time with its log. Read `Beyond`
 -- and `Meets` first, and of what stands above them what they name. Behind them stand the crew's whole replies, a lone foreign step, preparing and salvage.
 -- `Theorems`: ours meets all of it (`meets`), and no other build does (`no_other_build`).
-use Rattle.std.specs.Prelude.{ℕ, zero, suc, ◌+◌, ◌*◌, ◌/◌, ◌%◌, ◌≤◌, ◌<◌, ◌≡◌, List, [], ◌∷◌, ◌++◌, ◌≢◌, ◌⊎◌, ◌↔◌, length, get_or, drop, replicate}
+use Rattle.std.specs.Prelude.{ℕ, zero, suc, ◌+◌, ◌*◌, ◌/◌, ◌%◌, ◌≤◌, ◌<◌, ◌≡◌, List, [], ◌∷◌, ◌++◌, ◌≢◌, ◌⊎◌, ◌↔◌, length, get_or, drop, replicate, Ok, Err, Result as Std·Result}
+use Rattle.types.specs.declared.SalvageRefusal.{SalvageRefusal}
+use Rattle.types.specs.declared.SalvageRefusal.TheVariants as salvaged
 use Rattle.model.specs.Log.{Made, by_caller, attempt_begun, yielded, spun, released}
 use Rattle.types.specs.declared.Answer.{Answer}
 use Rattle.types.specs.declared.Answer.TheVariants.{Done, Cell, Granted, AllGranted, Busy, Refused, RefusedAt}
@@ -15,8 +17,6 @@ use Rattle.types.specs.declared.Reason.TheVariants as reason
 use Rattle.types.specs.declared.Refusal.{Refusal}
 use Rattle.types.specs.declared.Refusal.TheVariants.{BadShape, BadHeader, Poisoned, InvalidBucket, SerializationFailure}
 use Rattle.types.specs.declared.Reply.{Reply}
-use Rattle.types.specs.declared.SalvageAnswer.{SalvageAnswer}
-use Rattle.types.specs.declared.SalvageAnswer.TheVariants as salvaged
 use Rattle.types.specs.declared.SalvageReply.{SalvageReply}
 use Rattle.history.specs.World.{World}
 use Rattle.history.specs.Items.{Build, Stepper, Says, Call, try_acquire, drop_lease, read_permission, competing_acquire, release_then_handoff, foreign_release, drop_preserving, acquire_preserving, environment, try_lock, transactional, acquire_bucket, release_all, acquire_locks, acquire_sorted, crew, crew_at_work}
@@ -385,7 +385,7 @@ over ws run = ws ++ drop (length ws) run
 abbrev pub Salvager : Type 0
 Salvager = Head → (table health report list : List ℕ) → SalvageReply × (List ℕ × (List ℕ × (List ℕ × List ℕ)))
 
-abbrev pub concluded : Head → SalvageAnswer → SalvageReply
+abbrev pub concluded : Head → Std·Result (ℕ × ℕ) SalvageRefusal → SalvageReply
 concluded h a = record { head = h; answer = a }
 
 -- "After BadShape, refuse ReportFull before the first change if the report or that list cannot hold all its entries, and only then."; "health places counting on
@@ -393,12 +393,12 @@ concluded h a = record { head = h; answer = a }
 abbrev pub SalvagesArena : Salvager → Type 0
 SalvagesArena f =
     (h : Head) (t g report list : List ℕ)
-    → (If (Shape h (length t) → ⊥) Then Is (concluded h salvaged.BadShape, (t, (g, (report, list))))
-    Else If length g ≢ h.headers Then Is (concluded h salvaged.BadShape, (t, (g, (report, list))))
+    → (If (Shape h (length t) → ⊥) Then Is (concluded h (Err salvaged.BadShape), (t, (g, (report, list))))
+    Else If length g ≢ h.headers Then Is (concluded h (Err salvaged.BadShape), (t, (g, (report, list))))
     Else With (Mends h.next t) λ u.
     With (MendsBytes g) λ v.
     With (Changes 0 t u) λ x.
     With (Changes (3 * (h.headers * h.buckets)) g v) λ y.
     With (LeftHeld h.next (h.headers * h.buckets) 0 u) λ cs.
-    If (length report / 3 < length (x ++ y) / 3) ⊎ (length list < length cs) Then Is (concluded h salvaged.ReportFull, (t, (g, (report, list))))
-    Else Is (concluded h (salvaged.Done (length (x ++ y) / 3) (length cs)), (u, (v, (over (x ++ y) report, over cs list))))) (f h t g report list)
+    If (length report / 3 < length (x ++ y) / 3) ⊎ (length list < length cs) Then Is (concluded h (Err salvaged.ReportFull), (t, (g, (report, list))))
+    Else Is (concluded h (Ok ((length (x ++ y) / 3), (length cs))), (u, (v, (over (x ++ y) report, over cs list))))) (f h t g report list)

@@ -1,7 +1,8 @@
 -- Laws of putting text: text behind text, a form's next byte.
-use Rattle.std.specs.Prelude.{ℕ, suc, ◌+◌, ◌*◌, ◌≤◌, ◌<◌, ◌≡◌, refl, List, [], ◌∷◌, ◌++◌, eqb, length, get_or, drop, set}
-use Rattle.std.proofs.Common.{sym, ap, ◌∙◌, arith, add-one, length-append, drop_of_length-le, drop-cons}
-use Rattle.std.proofs.lemmas.List.Edits.{sets}
+use Rattle.std.specs.Prelude.{ℕ, ◌+◌, ◌-◌, ◌*◌, ◌≤◌, ◌<◌, ◌≡◌, refl, List, [], ◌∷◌, ◌++◌, eqb, length, set, suc, get_or, take, drop}
+use Rattle.std.proofs.Common.{add-one, ap, ◌∙◌, append_assoc, arith, length-append, drop_of_length-le}
+use Rattle.std.proofs.lemmas.List.Edits.{sets, sets-eq}
+use Rattle.std.proofs.lemmas.List.{drop-drop}
 use Rattle.choice.specs.Pick.{if_both}
 use Rattle.choice.specs.Lists.{drop_one, sets_sets}
 use Rattle.text.specs.Decimal.{length_decimal, digit_count_most}
@@ -32,12 +33,13 @@ pub put_more : (l : List ℕ) (i b : ℕ) (x : List ℕ) → put_of (set l i b) 
 unfolding put_of
 put_more l i b x = let e : i + 1 + length x ≡ i + suc (length x) = omega arith in rw (e, add-one i)
 
--- the rest of a text from its k-th byte on
-pub put_at : (l text : List ℕ) (i k : ℕ) → k < length text → put_of l i (drop k text) ≡ put_of (set l i (get_or text k 0)) (i + 1) (drop (k + 1) text)
-put_at l text i k h = rw (drop-cons text k 0 h, ← add-one k) (sym (put_more l i (get_or text k 0) (drop (k + 1) text)))
-
-pub put_end : (l text : List ℕ) (i k : ℕ) → length text ≤ k → (i, l) ≡ put_of l i (drop k text)
-put_end l text i k h = rw (drop_of_length-le text h) (put_none l i)
+-- text copied over a part of the run
+pub put_whole : (l text part : List ℕ) (i : ℕ) → i + length text ≤ length l → part ≡ text
+    → (i + length text, take i l ++ (part ++ drop (i + length text - i) (drop i l))) ≡ put_of l i text
+unfolding put_of
+put_whole l text part i h e =
+    let n : i + length text - i ≡ length text = omega arith in
+    rw (sets-eq text l i h, append_assoc (take i l) text (drop (i + length text) l), e, n, drop-drop (length text) i l)
 
 -- where it ends
 pub put_place : (l m : List ℕ) (i j : ℕ) (x : List ℕ) → (j, m) ≡ put_of l i x → j ≡ i + length x

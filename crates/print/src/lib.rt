@@ -1,5 +1,7 @@
 // Text put into a lent run, each function with the bytes that it puts: text, decimal numbers, forms.
 // All of these are parts of whoever prints: they ask for room, which the caller has tested.
+// A place goes beside the run, since `put_of` has both (a).
+// (a) Not by `write!`: the library states no bytes of its `Write for &mut [u8]`, and all of these promise bytes.
 #![tactic(auto)]
 
 ghost use Rattle.std.specs.Prelude.{◌≡◌, ◌+◌, ◌*◌, ◌^◌, ◌<◌, ◌≤◌, length, get_or};
@@ -11,14 +13,9 @@ pub fn put(out: &mut [u8], at: usize, text: &[u8]) -> usize
     requires { at + length text.now ≤ length out.old }
     ensures { (result, out.new) ≡ put_of out.old at text.now }
 {
-    let mut n = at;
-    let mut i = 0;
-    while i < text.len() {
-        out[n] = text[i];
-        n += 1;
-        i += 1;
-    }
-    n
+    let end = at + text.len();
+    out[at..end].copy_from_slice(text);
+    end
 }
 
 // Puts a number in decimal, where there is room for its digits. A part.
@@ -31,27 +28,15 @@ pub fn put_number(out: &mut [u8], at: usize, n: usize) -> usize
     put(out, at, &digits[..k])
 }
 
-// The k-th number, 0 where there is none.
-fn number_at(numbers: &[usize], k: usize) -> usize
-    ensures { result ≡ get_or numbers.now k 0 }
-{
-    if k < numbers.len() {
-        return numbers[k];
-    }
-    0
-}
-
 // Puts what a byte of a form stands for.
 fn put_piece(out: &mut [u8], at: usize, byte: u8, numbers: &[usize], k: usize) -> usize
     requires { at + 20 ≤ length out.old }
     ensures { (result, out.new) ≡ put_of out.old at (piece_of numbers.now k byte) }
 {
-    if byte == 35 {
-        let n = number_at(numbers, k);
-        return put_number(out, at, n);
+    if byte == b'#' {
+        return put_number(out, at, numbers.get(k).copied().unwrap_or(0));
     }
-    let one = [byte];
-    put(out, at, &one)
+    put(out, at, &[byte])
 }
 
 // Which number comes next behind a byte of a form.
@@ -59,26 +44,21 @@ fn after(k: usize, byte: u8) -> usize
     requires { k + 1 < 2 ^ 64 }
     ensures { result ≡ after_of k byte }
 {
-    if byte == 35 {
-        return k + 1;
-    }
-    k
+    k + usize::from(byte == b'#')
 }
 
 // Puts a form: its bytes as they are, but for each `#` the next number. A part.
+// (a) Which number comes next is counted: `form_of` and `after_of` count so.
 pub fn put_form(out: &mut [u8], at: usize, form: &[u8], numbers: &[usize]) -> usize
     requires { at + 20 * length form.now ≤ length out.old }
     ensures { (result, out.new)
         ≡ put_of out.old at (form_of form.now numbers.now) }
 {
     let mut used = at;
-    let mut k: usize = 0;
-    let mut i = 0;
-    while i < form.len() {
-        let byte = form[i];
-        used = put_piece(out, used, byte, numbers, k);
-        k = after(k, byte);
-        i += 1;
+    let mut k = 0;
+    for byte in form {
+        used = put_piece(out, used, *byte, numbers, k);
+        k = after(k, *byte);
     }
     used
 }

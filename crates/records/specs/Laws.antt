@@ -1,6 +1,6 @@
 -- Laws of the spelled table, and that a call on records is document 01's call on the table that they spell.
-use Rattle.std.specs.Prelude.{ℕ, zero, suc, ◌+◌, ◌*◌, ◌≤◌, ◌<◌, ◌≡◌, refl, Bool, true, false, not, List, [], ◌∷◌, leb, length, get_or, set}
-use Rattle.std.proofs.Common.{sym, ap, ◌∙◌, arith, le-leb, le-ltb, lt-ltb, leb-true, leb-false}
+use Rattle.std.specs.Prelude.{ℕ, zero, suc, ◌+◌, ◌*◌, ◌≤◌, ◌<◌, ◌≡◌, refl, Bool, true, false, not, List, [], ◌∷◌, leb, length, get_or, set, Ok, if◌then◌else◌, ltb, ◌&&◌, Err}
+use Rattle.std.proofs.Common.{sym, ap, ◌∙◌, arith, le-leb, le-ltb, lt-ltb, leb-true, leb-false, ltb-true}
 use Rattle.std.proofs.lemmas.Bool.{lt-leb}
 use Rattle.std.proofs.lemmas.List.{set-get_or}
 use Rattle.model.specs.Arena.{serial_remains, cells_of, head_of, spent_to, head_fits, shape_fits, bit_at, owner_at, set_cell, is_free, is_held, state_of, state_at, lease_of, is_stale, hold_in, held_by, is_live, issue_of}
@@ -9,21 +9,21 @@ use Rattle.model.specs.Lock.{take_in, take_of, outcome_of, answer_of}
 use Rattle.model.specs.Checks.{bad_cell, stale_boot, not_held, cell_rules, lease_rules}
 use Rattle.model.specs.Calls.{replied, refused, acquire_of, try_acquire_of, drop_lease_of}
 use Rattle.types.specs.declared.Answer.TheVariants.{Done, Granted}
-use Rattle.types.specs.declared.Check.TheVariants.{Fine}
 use Rattle.types.specs.declared.Head.{Head}
 use Rattle.types.specs.declared.Hold.{Hold}
 use Rattle.types.specs.declared.Lease.{Lease}
+use Rattle.types.specs.declared.Refusal.{Refusal}
 use Rattle.types.specs.declared.Refusal.TheVariants.{BadShape, InvalidBucket, NotHeld, StaleBoot}
 use Rattle.types.specs.declared.Reply.{Reply}
 use Rattle.types.specs.declared.State.{State}
 use Rattle.types.specs.declared.State.TheVariants.{Free, Held, Damaged}
 use Rattle.types.specs.declared.Took.{Took}
+use Rattle.types.specs.Checks.{Found}
 use Rattle.laws.specs.Checks.{first_skip, first_hit, shape_ok, shape_bad}
 use Rattle.laws.specs.Shape.{shaped}
 use Rattle.records.specs.Model.{spelled, cell_of, none, spot_of, take_spot_of, drop_spot_of, take_by, take_free_of, take_rule_of, drop_rule_of, call_of}
 use Rattle.records.specs.declared.Cell.{Cell}
 use Rattle.records.specs.declared.Changed.{Changed}
-use Rattle.records.specs.declared.Spot.{Spot}
 
 -- ---- the spelled table
 
@@ -75,15 +75,37 @@ state_spelled next l c = rw (bit_spelled l c, owner_spelled l c)
 
 -- ---- a call, by its test
 
-pub call_outside : {X : Type 0} (place : Head → ℕ → X → Spot) (rule : Head → Cell → X → Changed) (h : Head) (l : List Cell) (x : X) (p : Spot)
-    → length l ≤ p.at → p ≡ place h (length l) x → (p.refused, l) ≡ call_of place rule h l x
+pub call_outside : {X : Type 0} (place : Head → ℕ → X → Found) (rule : Head → Cell → X → Changed) (h : Head) (l : List Cell) (x : X) (r : Refusal)
+    → Err r ≡ place h (length l) x → (refused h r, l) ≡ call_of place rule h l x
 unfolding call_of
-call_outside place rule h l x p b e = rw (← e, le-leb _ _ b)
+call_outside place rule h l x r e = rw (← e)
 
-pub call_inside : {X : Type 0} (place : Head → ℕ → X → Spot) (rule : Head → Cell → X → Changed) (h : Head) (l : List Cell) (x : X) (p : Spot) (k : Changed)
-    → p.at < length l → p ≡ place h (length l) x → k ≡ rule h (get_or l p.at none) x → (k.reply, set l p.at k.cell) ≡ call_of place rule h l x
+pub call_inside : {X : Type 0} (place : Head → ℕ → X → Found) (rule : Head → Cell → X → Changed) (h : Head) (l : List Cell) (x : X) (at : ℕ) (k : Changed)
+    → Ok at ≡ place h (length l) x → k ≡ rule h (get_or l at none) x → (k.reply, set l at k.cell) ≡ call_of place rule h l x
 unfolding call_of
-call_inside place rule h l x p k b e f = rw (← e, lt-leb _ _ b, ← f)
+call_inside place rule h l x at k e f = rw (← e, ← f)
+
+-- a place that is told lies in the slice
+spot_in : (h : Head) (n c at : ℕ) (x : Refusal) → Ok at ≡ spot_of h n c x → at < n
+unfolding spot_of
+spot_in h n c at x e = go (shape_fits h (3 * n)) (ltb c n) refl e
+  where
+    go : (a b : Bool) → ltb c n ≡ b → Ok at ≡ (if not a then Err BadShape else if b then Ok c else Err x) → at < n
+    go false b q p = let z : ◌≡◌ {A = ℕ} 0 1 = cc in omega arith
+    go true true q p = let z : at ≡ c = cc in omega (arith, ltb-true c n q, z)
+    go true false q p = let z : ◌≡◌ {A = ℕ} 0 1 = cc in omega arith
+
+pub take_spot_in : (h : Head) (n c at : ℕ) → Ok at ≡ take_spot_of h n c → at < n
+unfolding take_spot_of
+take_spot_in h n c at e = spot_in h n c at (InvalidBucket c) e
+
+pub drop_spot_in : (h : Head) (n : ℕ) (x : Lease) (at : ℕ) → Ok at ≡ drop_spot_of h n x → at < n
+unfolding drop_spot_of
+drop_spot_in h n x at e = go (is_stale h x && shape_fits h (3 * n)) e
+  where
+    go : (b : Bool) → Ok at ≡ (if b then Err (StaleBoot 0) else spot_of h n x.cell (NotHeld 0)) → at < n
+    go true p = let z : ◌≡◌ {A = ℕ} 0 1 = cc in omega arith
+    go false p = spot_in h n x.cell at (NotHeld 0) p
 
 -- what a call gives: its reply, and the table that the records then spell
 abbrev pub given : Reply × List Cell → Reply × List ℕ
@@ -108,7 +130,7 @@ fits_spelled : (h : Head) (l : List Cell) (b : Bool) → shape_fits h (3 * lengt
 fits_spelled h l b p = ap (shape_fits h) (length_spelled l) ∙ p
 
 -- where no rule applies
-no_rule : first [] ≡ Fine
+no_rule : first [] ≡ Ok tt
 unfolding first
 no_rule = refl
 
@@ -143,19 +165,19 @@ Takes h l c = given (call_of take_spot_of take_rule_of h l c) ≡ (try_acquire_o
 -- the three ways: refused for the shape, refused for the cell, and what the rule makes
 take_misfit : (h : Head) (l : List Cell) (c : ℕ) → shape_fits h (3 * length l) ≡ false → Takes h l c
 unfolding call_of take_spot_of spot_of try_acquire_of cell_rules
-take_misfit h l c p = rw (p, le-leb (length l) (length l) (omega arith), shape_bad h (spelled l) (bad_cell h c ∷ []) (fits_spelled h l false p))
+take_misfit h l c p = rw (p, shape_bad h (spelled l) (bad_cell h c ∷ []) (fits_spelled h l false p))
 
 take_outside : (h : Head) (l : List Cell) (c : ℕ) → shape_fits h (3 * length l) ≡ true → length l ≤ c → Takes h l c
 unfolding call_of take_spot_of spot_of try_acquire_of cell_rules
 take_outside h l c p b =
     let over : leb (cells_of h) c ≡ true = rw (records_are h (length l) p) (le-leb (length l) c b) in
-    rw (p, le-leb (length l) c b, shape_ok h (spelled l) (bad_cell h c ∷ []) (fits_spelled h l true p), first_hit (bad_cell h c) [] over)
+    rw (p, le-ltb c (length l) b, shape_ok h (spelled l) (bad_cell h c ∷ []) (fits_spelled h l true p), first_hit (bad_cell h c) [] over)
 
 take_inside : (h : Head) (l : List Cell) (c : ℕ) → shape_fits h (3 * length l) ≡ true → c < length l → Takes h l c
 unfolding call_of take_spot_of spot_of try_acquire_of cell_rules
 take_inside h l c p b =
     let under : leb (cells_of h) c ≡ false = rw (records_are h (length l) p) (lt-leb (length l) c b) in
-    rw (p, lt-leb (length l) c b, shape_ok h (spelled l) (bad_cell h c ∷ []) (fits_spelled h l true p), first_skip (bad_cell h c) [] under, no_rule) (take_record h l c)
+    rw (p, lt-ltb c (length l) b, shape_ok h (spelled l) (bad_cell h c ∷ []) (fits_spelled h l true p), first_skip (bad_cell h c) [] under, no_rule) (take_record h l c)
 
 pub take_agrees : (h : Head) (l : List Cell) (c : ℕ) → given (call_of take_spot_of take_rule_of h l c) ≡ (try_acquire_of h (spelled l) c).seen
 take_agrees h l c = go (shape_fits h (3 * length l)) refl (leb (length l) c) refl
@@ -164,6 +186,16 @@ take_agrees h l c = go (shape_fits h (3 * length l)) refl (leb (length l) c) ref
     go false p b q = take_misfit h l c p
     go true p true q = take_outside h l c p (leb-true _ _ q)
     go true p false q = take_inside h l c p (leb-false _ _ q)
+
+-- the same as the code goes: refused, or a record is written
+pub take_refused : (h : Head) (l : List Cell) (c : ℕ) (r : Refusal) → Err r ≡ take_spot_of h (length l) c → (refused h r, spelled l) ≡ (try_acquire_of h (spelled l) c).seen
+take_refused h l c r e = ap given (call_outside take_spot_of take_rule_of h l c r e) ∙ take_agrees h l c
+
+pub take_done : (h : Head) (l : List Cell) (c at : ℕ) (k : Changed) → Ok at ≡ take_spot_of h (length l) c → k ≡ take_rule_of h (get_or l at none) c
+    → written l at k ≡ (try_acquire_of h (spelled l) c).seen
+take_done h l c at k e f = ap given (call_inside take_spot_of take_rule_of h l c at k e f) ∙ take_agrees h l c
+
+pub ruleset taking = (take_spot_in, take_refused, take_done)
 
 -- ---- a single release
 
@@ -189,28 +221,28 @@ behind h l x = stale_boot h 0 x ∷ not_held h (spelled l) 0 x ∷ []
 -- the five ways: refused for the shape, for the boot number, for the cell, because another or nobody holds it, and released
 drop_misfit : (h : Head) (l : List Cell) (x : Lease) (b : Bool) → is_stale h x ≡ b → shape_fits h (3 * length l) ≡ false → Drops h l x
 unfolding call_of drop_spot_of spot_of drop_lease_of lease_rules
-drop_misfit h l x true f p = rw (shape_bad h (spelled l) (behind h l x) (fits_spelled h l false p), f, p, le-leb (length l) (length l) (omega arith))
-drop_misfit h l x false f p = rw (shape_bad h (spelled l) (behind h l x) (fits_spelled h l false p), f, p, le-leb (length l) (length l) (omega arith))
+drop_misfit h l x true f p = rw (shape_bad h (spelled l) (behind h l x) (fits_spelled h l false p), f, p)
+drop_misfit h l x false f p = rw (shape_bad h (spelled l) (behind h l x) (fits_spelled h l false p), f, p)
 
 drop_earlier : (h : Head) (l : List Cell) (x : Lease) → is_stale h x ≡ true → shape_fits h (3 * length l) ≡ true → Drops h l x
 unfolding call_of drop_spot_of spot_of drop_lease_of lease_rules
 drop_earlier h l x f p =
-    rw (shape_ok h (spelled l) (behind h l x) (fits_spelled h l true p), first_hit (stale_boot h 0 x) (not_held h (spelled l) 0 x ∷ []) f, f, p, le-leb (length l) (length l) (omega arith))
+    rw (shape_ok h (spelled l) (behind h l x) (fits_spelled h l true p), first_hit (stale_boot h 0 x) (not_held h (spelled l) 0 x ∷ []) f, f, p)
 
 drop_outside : (h : Head) (l : List Cell) (x : Lease) → is_stale h x ≡ false → shape_fits h (3 * length l) ≡ true → length l ≤ x.cell → Drops h l x
 unfolding call_of drop_spot_of spot_of drop_lease_of lease_rules
 drop_outside h l x f p b =
-    rw (shape_ok h (spelled l) (behind h l x) (fits_spelled h l true p), first_skip (stale_boot h 0 x) (not_held h (spelled l) 0 x ∷ []) f, first_hit (not_held h (spelled l) 0 x) [] (ap not (live_outside h l (hold_in x) p b)), f, p, le-leb (length l) x.cell b)
+    rw (shape_ok h (spelled l) (behind h l x) (fits_spelled h l true p), first_skip (stale_boot h 0 x) (not_held h (spelled l) 0 x ∷ []) f, first_hit (not_held h (spelled l) 0 x) [] (ap not (live_outside h l (hold_in x) p b)), f, p, le-ltb x.cell (length l) b)
 
 drop_loose : (h : Head) (l : List Cell) (x : Lease) → is_stale h x ≡ false → shape_fits h (3 * length l) ≡ true → x.cell < length l → held_in h l (hold_in x) ≡ false → Drops h l x
 unfolding call_of drop_spot_of spot_of drop_lease_of lease_rules drop_rule_of
 drop_loose h l x f p b q =
-    rw (shape_ok h (spelled l) (behind h l x) (fits_spelled h l true p), first_skip (stale_boot h 0 x) (not_held h (spelled l) 0 x ∷ []) f, first_hit (not_held h (spelled l) 0 x) [] (ap not (live_inside h l (hold_in x) p b ∙ q)), f, p, lt-leb (length l) x.cell b, q, set-get_or l x.cell none)
+    rw (shape_ok h (spelled l) (behind h l x) (fits_spelled h l true p), first_skip (stale_boot h 0 x) (not_held h (spelled l) 0 x ∷ []) f, first_hit (not_held h (spelled l) 0 x) [] (ap not (live_inside h l (hold_in x) p b ∙ q)), f, p, lt-ltb x.cell (length l) b, q, set-get_or l x.cell none)
 
 drop_held : (h : Head) (l : List Cell) (x : Lease) → is_stale h x ≡ false → shape_fits h (3 * length l) ≡ true → x.cell < length l → held_in h l (hold_in x) ≡ true → Drops h l x
 unfolding call_of drop_spot_of spot_of drop_lease_of lease_rules drop_rule_of
 drop_held h l x f p b q =
-    rw (shape_ok h (spelled l) (behind h l x) (fits_spelled h l true p), first_skip (stale_boot h 0 x) (not_held h (spelled l) 0 x ∷ []) f, first_skip (not_held h (spelled l) 0 x) [] (ap not (live_inside h l (hold_in x) p b ∙ q)), no_rule, f, p, lt-leb (length l) x.cell b, q, set_spelled l x.cell 0 0)
+    rw (shape_ok h (spelled l) (behind h l x) (fits_spelled h l true p), first_skip (stale_boot h 0 x) (not_held h (spelled l) 0 x ∷ []) f, first_skip (not_held h (spelled l) 0 x) [] (ap not (live_inside h l (hold_in x) p b ∙ q)), no_rule, f, p, lt-ltb x.cell (length l) b, q, set_spelled l x.cell 0 0)
 
 pub drop_agrees : (h : Head) (l : List Cell) (x : Lease) → given (call_of drop_spot_of drop_rule_of h l x) ≡ (drop_lease_of h (spelled l) x).seen
 drop_agrees h l x = go (shape_fits h (3 * length l)) refl (is_stale h x) refl (leb (length l) x.cell) refl
@@ -224,6 +256,15 @@ drop_agrees h l x = go (shape_fits h (3 * length l)) refl (is_stale h x) refl (l
     go true p true f b q = drop_earlier h l x f p
     go true p false f true q = drop_outside h l x f p (leb-true _ _ q)
     go true p false f false q = inside f p (leb-false _ _ q) (held_in h l (hold_in x)) refl
+
+pub drop_refused : (h : Head) (l : List Cell) (x : Lease) (r : Refusal) → Err r ≡ drop_spot_of h (length l) x → (refused h r, spelled l) ≡ (drop_lease_of h (spelled l) x).seen
+drop_refused h l x r e = ap given (call_outside drop_spot_of drop_rule_of h l x r e) ∙ drop_agrees h l x
+
+pub drop_done : (h : Head) (l : List Cell) (x : Lease) (at : ℕ) (k : Changed) → Ok at ≡ drop_spot_of h (length l) x → k ≡ drop_rule_of h (get_or l at none) x
+    → written l at k ≡ (drop_lease_of h (spelled l) x).seen
+drop_done h l x at k e f = ap given (call_inside drop_spot_of drop_rule_of h l x at k e f) ∙ drop_agrees h l x
+
+pub ruleset dropping = (drop_spot_in, drop_refused, drop_done)
 
 -- ---- what the promises fix
 

@@ -1,6 +1,7 @@
 -- The cells as records: the table that they spell, the rules on one record, and what the two calls do with a slice of them.
 -- A reader of the promises needs `spelled` alone; the rest says how the code gets there, and `Laws` that it is document 01's.
-use Rattle.std.specs.Prelude.{ℕ, ◌*◌, List, [], ◌∷◌, leb, length, get_or, set, if◌then◌else◌}
+use Rattle.std.specs.Prelude.{ℕ, ◌*◌, List, [], ◌∷◌, not, ◌&&◌, ltb, length, get_or, set, if◌then◌else◌, Option, Some, None, Ok, Err}
+use Rattle.types.specs.Checks.{Found}
 use Rattle.model.specs.Arena.{shape_fits, state_of, is_stale, held_by, issue_of}
 use Rattle.model.specs.Lock.{outcome_of, answer_of}
 use Rattle.model.specs.Calls.{replied, refused}
@@ -10,15 +11,12 @@ use Rattle.types.specs.declared.Lease.{Lease}
 use Rattle.types.specs.declared.Refusal.{Refusal}
 use Rattle.types.specs.declared.Refusal.TheVariants.{BadShape, InvalidBucket, NotHeld, StaleBoot}
 use Rattle.types.specs.declared.Reply.{Reply}
-use Rattle.types.specs.declared.Serial.{Serial}
-use Rattle.types.specs.declared.Serial.TheVariants as serial
 use Rattle.types.specs.declared.State.{State}
 use Rattle.types.specs.declared.State.TheVariants as state
 use Rattle.types.specs.declared.Take.{Take}
 use Rattle.types.specs.declared.Take.TheVariants as taking
 use Rattle.records.specs.declared.Cell.{Cell}
 use Rattle.records.specs.declared.Changed.{Changed}
-use Rattle.records.specs.declared.Spot.{Spot}
 
 -- the table that records spell: "bit, owner, waiters for each cell"
 unfoldable pub spelled : List Cell → List ℕ
@@ -32,24 +30,18 @@ cell_of bit owner waiters = record { bit = bit; owner = owner; waiters = waiters
 abbrev pub none : Cell
 none = cell_of 0 0 0
 
--- ---- where the record stands, and what is answered where the slice has no such place
+-- ---- where the record stands, or why the slice has no such place
 
-abbrev pub spot : ℕ → Reply → Spot
-spot at reply = record { at = at; refused = reply }
+unfoldable pub spot_of : Head → ℕ → ℕ → Refusal → Found
+spot_of h n c x = if not (shape_fits h (3 * n)) then Err BadShape else if ltb c n then Ok c else Err x
 
--- of a head and a number of records that do not keep the arena's rules: past the end
-unfoldable pub spot_of : Head → ℕ → ℕ → Refusal → Spot
-spot_of h n c x =
-    if shape_fits h (3 * n) then spot c (refused h x)
-    else spot n (refused h BadShape)
-
-unfoldable pub take_spot_of : Head → ℕ → ℕ → Spot
+unfoldable pub take_spot_of : Head → ℕ → ℕ → Found
 take_spot_of h n c = spot_of h n c (InvalidBucket c)
 
--- 16 comes before 12, and no record is read for it: past the end
-unfoldable pub drop_spot_of : Head → ℕ → Lease → Spot
+-- 16 comes behind 1 and before 12
+unfoldable pub drop_spot_of : Head → ℕ → Lease → Found
 drop_spot_of h n l =
-    if is_stale h l then spot n (spot_of h n l.cell (StaleBoot 0)).refused
+    if is_stale h l && shape_fits h (3 * n) then Err (StaleBoot 0)
     else spot_of h n l.cell (NotHeld 0)
 
 -- ---- the rules on one record
@@ -61,9 +53,9 @@ changed c r = record { cell = c; reply = r }
 abbrev pub take_reply_of : Head → ℕ → Take → Reply
 take_reply_of h n a = replied h 1 (answer_of h.boot (outcome_of n a))
 
-abbrev pub serve : Serial → Head → Cell → ℕ → Changed
-serve (serial.Issued s) h c n = changed (cell_of 1 s c.waiters) (take_reply_of h n (taking.Granted s))
-serve serial.Spent h c n = changed c (take_reply_of h n taking.Spent)
+abbrev pub serve : Option ℕ → Head → Cell → ℕ → Changed
+serve (Some s) h c n = changed (cell_of 1 s c.waiters) (take_reply_of h n (taking.Granted s))
+serve None h c n = changed c (take_reply_of h n taking.Spent)
 
 unfoldable pub take_free_of : Head → Cell → ℕ → Changed
 take_free_of h c n = serve (issue_of h).serial (issue_of h).head c n
@@ -85,9 +77,9 @@ drop_rule_of h c l =
 
 -- ---- a call: the record is copied out, a rule is called, and what it makes is written back
 
-unfoldable pub call_of : {X : Type 0} → (Head → ℕ → X → Spot) → (Head → Cell → X → Changed) → Head → List Cell → X → Reply × List Cell
-call_of place rule h cells x =
-    let p = place h (length cells) x in
-    let k = rule h (get_or cells p.at none) x in
-    if leb (length cells) p.at then (p.refused, cells)
-    else (k.reply, set cells p.at k.cell)
+abbrev pub call_at : Found → (Cell → Changed) → Head → List Cell → Reply × List Cell
+call_at (Err r) rule h cells = (refused h r, cells)
+call_at (Ok at) rule h cells = let k = rule (get_or cells at none) in (k.reply, set cells at k.cell)
+
+unfoldable pub call_of : {X : Type 0} → (Head → ℕ → X → Found) → (Head → Cell → X → Changed) → Head → List Cell → X → Reply × List Cell
+call_of place rule h cells x = call_at (place h (length cells) x) (λ c. rule h c x) h cells

@@ -1,5 +1,5 @@
 -- `release_all`: its checks, position by position, and the leases given back from the last on.
-use Rattle.std.specs.Prelude.{ℕ, zero, suc, ◌+◌, ◌*◌, ◌-◌, ◌/◌, ◌≤◌, ◌<◌, ◌≡◌, refl, List, [], ◌∷◌, ◌++◌, false, not, ltb, length, get_or, take, drop, if◌then◌else◌}
+use Rattle.std.specs.Prelude.{ℕ, zero, suc, ◌+◌, ◌*◌, ◌-◌, ◌/◌, ◌≤◌, ◌<◌, ◌≡◌, refl, List, [], ◌∷◌, ◌++◌, false, not, ltb, length, get_or, take, drop, if◌then◌else◌, Ok, Err}
 use Rattle.std.proofs.Common.{ap, ◌∙◌, arith, ltb-false}
 use Rattle.std.proofs.lemmas.Bool.{not-false}
 use Rattle.model.specs.Arena.{cells_of, is_stale, hold_of, hold_in, holds_of, leases_of, is_live, is_in, set_cell}
@@ -9,7 +9,6 @@ use Rattle.model.specs.Foreign.{Setting, protecting, boundary_of}
 use Rattle.model.specs.Lock.{run_of, hold_at, give_back_of}
 use Rattle.model.specs.Calls.{starting, given, script_reply}
 use Rattle.types.specs.declared.Answer.TheVariants.{Done}
-use Rattle.types.specs.declared.Check.TheVariants.{Fine, Fault}
 use Rattle.types.specs.declared.Head.{Head}
 use Rattle.types.specs.declared.Hold.{Hold}
 use Rattle.types.specs.declared.Lease.{Lease}
@@ -17,11 +16,11 @@ use Rattle.types.specs.declared.ScriptReply.{ScriptReply}
 use Rattle.types.specs.declared.Refusal.TheVariants as refusal
 use Rattle.types.specs.declared.Run.{Run}
 use Rattle.choice.specs.Pick.{neither}
-use Rattle.laws.specs.Checks.{or_else, fine_rest, fine_append, arena_fine, lease_in, leases_at, leases_end, hold_in_lem, live_inside}
+use Rattle.laws.specs.Checks.{fine_rest, fine_append, arena_fine, lease_in, leases_at, leases_end, hold_in_lem, live_inside}
 use Rattle.foreign.specs.declared.Scope.{Scope}
-use Rattle.foreign.specs.Model.{setting_of, in_scope, RoomIn}
+use Rattle.foreign.specs.Model.{setting_of, in_scope}
 use Rattle.foreign.specs.Laws.{boundary_goes}
-use Rattle.foreign.specs.Fine.{ScriptFine, place_fine, script_then, guards_none}
+use Rattle.foreign.specs.Fine.{ScriptFine, place_fine, guards_none}
 use Rattle.bucket.specs.Bounds.{call_most}
 use Rattle.bucket.specs.Laws.{RunBound}
 
@@ -52,15 +51,15 @@ more_leases (c ∷ s ∷ b ∷ l) (suc i) h =
 module _ (h : Head) (t leases : List ℕ) (i : ℕ) where
   pub releasable_at : (l : Lease) → l ≡ lease_in leases i → 3 * i + 2 < length leases
       → first (not_releasable h t i (holds_of (take (3 * i) leases)) (leases_of (drop (3 * i) leases)))
-      ≡ (if is_stale h l then Fault (refusal.StaleBoot i)
-      else if not (is_live h.next (cells_of h) t (hold_in l)) then Fault (refusal.NotHeld i)
-      else if is_in (hold_in l) (holds_of (take (3 * i) leases)) then Fault (refusal.Repeated i)
+      ≡ (if is_stale h l then Err (refusal.StaleBoot i)
+      else if not (is_live h.next (cells_of h) t (hold_in l)) then Err (refusal.NotHeld i)
+      else if is_in (hold_in l) (holds_of (take (3 * i) leases)) then Err (refusal.Repeated i)
       else first (not_releasable h t (i + 1) (holds_of (take (3 * (i + 1)) leases)) (leases_of (drop (3 * (i + 1)) leases))))
   unfolding first not_releasable
   releasable_at l e b = rw (e, leases_at leases i b, more_leases leases i b)
 
   pub releasable_end : length leases ≤ 3 * i + 2
-      → first (not_releasable h t i (holds_of (take (3 * i) leases)) (leases_of (drop (3 * i) leases))) ≡ Fine
+      → first (not_releasable h t i (holds_of (take (3 * i) leases)) (leases_of (drop (3 * i) leases))) ≡ Ok tt
   unfolding first not_releasable
   releasable_end b = rw (leases_end leases i b)
 
@@ -70,7 +69,7 @@ module _ (h : Head) (t leases : List ℕ) (i : ℕ) where
 abbrev pub Inside : ℕ → List ℕ → Type 0
 Inside cells leases = (i : ℕ) → 3 * i + 2 < length leases → get_or leases (3 * i) 0 < cells
 
-releasable_inside : (h : Head) (t : List ℕ) (n : ℕ) (earlier : List Hold) (l : List ℕ) → first (not_releasable h t n earlier (leases_of l)) ≡ Fine → Inside (cells_of h) l
+releasable_inside : (h : Head) (t : List ℕ) (n : ℕ) (earlier : List Hold) (l : List ℕ) → first (not_releasable h t n earlier (leases_of l)) ≡ Ok tt → Inside (cells_of h) l
 unfolding not_releasable leases_of
 releasable_inside h t n earlier [] e i k = absurd (omega arith)
 releasable_inside h t n earlier (c ∷ []) e i k = absurd (omega arith)
@@ -92,12 +91,7 @@ pub record ReleaseFine (h : Head) (words bytes script place : ℕ) (leases : Lis
 unfoldable pub leases_rules : Head → List ℕ → List ℕ → List Rule
 leases_rules h t leases = too_many_leases leases ∷ not_releasable h t 0 [] (leases_of leases)
 
-pub release_then : (h : Head) (t g script : List ℕ) (place : ℕ) (leases : List ℕ)
-    → first (release_rules h t g script place leases) ≡ or_else (first (bad_shape h t ∷ bad_health h g ∷ [])) (first (bad_script script place ∷ leases_rules h t leases))
-unfolding release_rules leases_rules
-release_then h t g script place leases = script_then h t g _
-
-pub release_fine : (h : Head) (t g script : List ℕ) (place : ℕ) (leases : List ℕ) → first (release_rules h t g script place leases) ≡ Fine
+pub release_fine : (h : Head) (t g script : List ℕ) (place : ℕ) (leases : List ℕ) → first (release_rules h t g script place leases) ≡ Ok tt
     → ReleaseFine h (length t) (length g) (length script) place leases
 unfolding release_rules
 release_fine h t g script place leases e =
@@ -142,11 +136,6 @@ give_back_at k m e ls r t g o l q = let s : k ≡ suc m = omega arith in rw (s, 
 pub give_back_end : (k : ℕ) (e : Setting) (ls : List Hold) (r : Run) (t g : List ℕ) → k ≤ 0 → (give_back_of k e ls r t g).seen ≡ (r, (t, g))
 unfolding give_back_of
 give_back_end k e ls r t g l = let s : k ≡ 0 = omega arith in rw s
-
--- lengths do not change
-pub room_for : (s : Scope) {words words₀ bytes bytes₀ n script : ℕ} → words ≡ words₀ → bytes ≡ bytes₀
-    → RoomIn s words₀ bytes₀ n script → RoomIn s words bytes n script
-room_for s p q k = rw (p, q) k
 
 -- where the loop stands, with k leases still to be released: what remains from here is what the whole comes to
 pub record Giving (e : Setting) (steps : ℕ) (ls : List Hold) (n : ℕ) (r₀ : Run) (t₀ g₀ : List ℕ) (k : ℕ) (r : Run) (t g : List ℕ) : Type 0 where

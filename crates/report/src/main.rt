@@ -3,17 +3,9 @@
 #![tactic(auto)]
 
 ghost use Rattle.std.specs.Prelude.{◌+◌, ◌≤◌, ◌≡◌, length, IfOk};
-ghost use Rattle.io.specs.Counts.{IsPrefixLen};
 
 use std::io;
 use std::io::{Lock, Read, Write};
-
-// How much of the room the input fills, or that a read failed.
-#[derive(Clone, Copy)]
-enum Input {
-    Whole(usize),
-    Lost,
-}
 
 // Room for more than the longest good input, 1,000 lines of 10 bytes. The report of the first 16,384 bytes is that of
 // all, however many there are: `front_is_enough` of crate `report_rules`.
@@ -25,10 +17,9 @@ fn input_room() -> [u8; 16384]
 
 fn main(rt: HostRuntime) {
     let mut input = input_room();
-    let read = read_input(&mut rt.reader(), &mut input);
-    match read {
-        Input::Whole(n) => print_report(&rt, &input, n),
-        Input::Lost => complain(&rt, b"report: input lost\n"),
+    match read_input(&mut rt.reader(), &mut input) {
+        Ok(n) => print_report(&rt, &input[..n]),
+        Err(_) => complain(&rt, b"report: input lost\n"),
     }
 }
 
@@ -41,50 +32,36 @@ fn read_behind(reader: &mut impl Read, input: &mut [u8], done: usize) -> io::Res
 }
 
 // Up to the end of input or of the room. (`read_to_end` would ask for memory.)
-fn read_input(reader: &mut impl Read, input: &mut [u8]) -> Input {
+// (a) No `read_to_end`: it would ask for memory. (d) No `for`: the place moves by what was read.
+fn read_input(reader: &mut impl Read, input: &mut [u8]) -> io::Result<usize>
+    ensures { IfOk result (λ n. n ≤ length input.old) }
+{
     let mut done = 0;
     while done < input.len() {
-        match read_behind(reader, input, done) {
-            Ok(0) => return Input::Whole(done),
-            Ok(more) => done += more,
-            Err(_) => return Input::Lost,
+        let more = read_behind(reader, input, done)?;
+        if more == 0 {
+            return Ok(done);
         }
+        done += more;
     }
-    Input::Whole(done)
-}
-
-// The first n bytes, or all where there are fewer.
-fn within(n: usize, run: &[u8]) -> usize
-    ensures { IsPrefixLen result run.now }
-{
-    if n < run.len() {
-        return n;
-    }
-    run.len()
+    Ok(done)
 }
 
 // The room that the report asks for.
-fn print_report(rt: &HostRuntime, input: &[u8], n: usize) {
+fn print_report(rt: &HostRuntime, input: &[u8]) {
     let mut out = [0u8; 4096];
-    let most = within(n, input);
-    let reported = report_call::report(&input[..most], &mut out);
-    if let report_rules::Reported::Done(used) = reported {
-        write_front(rt, &out, used);
+    if let Ok(used) = report_call::report(input, &mut out) {
+        write_text(rt, &out[..used.min(out.len())]);
     }
 }
 
-fn write_front(rt: &HostRuntime, out: &[u8], used: usize) {
-    let most = within(used, out);
-    match rt.stdout().lock().write_all(&out[..most]) {
-        Ok(()) => {}
-        Err(_) => complain(rt, b"report: output lost\n"),
+fn write_text(rt: &HostRuntime, text: &[u8]) {
+    if rt.stdout().lock().write_all(text).is_err() {
+        complain(rt, b"report: output lost\n");
     }
 }
 
 // A message on standard error. If that is lost too, nobody is left to tell.
 fn complain(rt: &HostRuntime, message: &[u8]) {
-    match rt.stderr().lock().write_all(message) {
-        Ok(()) => {}
-        Err(_) => {}
-    }
+    let _ = rt.stderr().lock().write_all(message);
 }

@@ -1,13 +1,18 @@
 -- Laws of the report: one turn of each loop, bounds, and that a pass over the input leaves the sums over the trials that were read.
-use Rattle.std.specs.Prelude.{ℕ, zero, suc, ◌+◌, ◌-◌, ◌≤◌, ◌<◌, ◌≢◌, ◌≡◌, refl, List, [], ◌∷◌, ◌++◌, Bool, true, false, eqb, ltb, leb, length, get_or, drop, set, replicate, if◌then◌else◌}
-use Rattle.std.proofs.Common.{sym, ap, ◌∙◌, arith, length-set, length-append, length-drop, get_or-set_same, get_or-set_other, eqb-true, eq-eqb, ne_eqb, lt-ltb, le-ltb, ltb-true, ltb-false, leb-true}
+use Rattle.std.specs.Prelude.{ℕ, zero, suc, ◌+◌, ◌-◌, ◌≤◌, ◌<◌, ◌≡◌, refl, List, [], ◌∷◌, ◌++◌, Bool, true, false, eqb, ltb, length, get_or, drop, set, replicate, if◌then◌else◌, Some, None}
+use Rattle.std.specs.declared.option.Option.{Option}
+use Rattle.std.specs.declared.result.Result.{Result}
+use Rattle.std.specs.declared.result.Result.TheVariants.{Ok, Err}
+use Rattle.std.specs.Option.{option_and_then, option_map_or}
+use Rattle.std.proofs.lemmas.Option.{none-some, same_Some, option_and_then_some}
+use Rattle.std.proofs.Common.{sym, ap, subst, ◌∙◌, arith, length-set, length-append, length-drop, get_or-set_same, get_or-set_other, eqb-true, eq-eqb, ne_eqb, lt-ltb, le-ltb, ltb-true, ltb-false}
 use Rattle.std.proofs.Math.Decide.{ℕ_discrete, dec_lt}
 use Rattle.std.proofs.lemmas.List.{get_or-replicate}
 use Rattle.std.proofs.Math.ListN.{get_or-eq_default}
 use Rattle.std.proofs.lemmas.List.Edits.{sets}
 use Rattle.std.proofs.Math.Seq.{set_out}
 use Rattle.text.specs.declared.Number.{Number}
-use Rattle.text.specs.Text.{read_number_of}
+use Rattle.text.specs.Text.{read_number_of, digits_read}
 use Rattle.text.specs.Laws.{number_within}
 use Rattle.model.specs.Names.{name_of}
 use Rattle.print.specs.Print.{put_of, form_of}
@@ -15,34 +20,21 @@ use Rattle.print.specs.Laws.{put_none, put_first, form_size}
 use Rattle.report_rules.specs.declared.Trial.{Trial}
 use Rattle.report_rules.specs.declared.Line.{Line}
 use Rattle.report_call.specs.declared.Sums.{Sums}
-use Rattle.report_rules.specs.declared.Reported.{Reported}
-use Rattle.report_rules.specs.declared.Reported.TheVariants.{Done}
-use Rattle.report_rules.specs.Reading.{Small, Reading, bad_line, results, onto, no_line, fits_of, end_at, refusal_at, line_at, read_from, read_of}
+use Rattle.report_rules.specs.declared.NoRoom.{NoRoom}
+use Rattle.report_rules.specs.Reading.{Small, Reading, bad_line, results, onto, no_line, line_with, fits_of, end_at, refusal_at, line_at, read_from, read_of}
 use Rattle.report_rules.specs.Sums.{count_of, attempts_of, larger_of, greatest_of}
-use Rattle.report_call.specs.Scan.{no_sums, with_of, counted_of, added_of, bad_of, scan_from, scan_of, Bounded, seen_in, printed_of}
+use Rattle.report_call.specs.Scan.{no_sums, counted_of, added_of, scan_from, scan_of, Bounded, seen_in, printed_of}
+use Rattle.report_rules.specs.Long.{fits_is}
 use Rattle.report_names.specs.Table.{name_short}
 use Rattle.report_rules.specs.Report.{head_form, number_form, count_form, row_of, rows_of, head_of, text_of, text_for, answer_of, report_of}
 
 -- ---- a line that is read
 
--- no byte stands past the end
-pub none_past : (l : List ℕ) (at stop : ℕ) → length l ≤ at → 0 < stop → eqb (get_or l at 0) stop ≡ false
-none_past l at stop h p = let e : 0 ≢ stop = omega arith in rw (get_or-eq_default l 0 h) (ne_eqb 0 stop e)
-
--- a number that is read ends within the input
-pub number_ends : (l : List ℕ) (at : ℕ) → at ≤ length l → at + (read_number_of (drop at l)).digits ≤ length l
-number_ends l at h = omega (arith, number_within (drop at l), length-drop at l)
-
-pub number_short : (l : List ℕ) (at : ℕ) → (read_number_of (drop at l)).digits ≤ length l - at
-number_short l at = omega (arith, number_within (drop at l), length-drop at l)
-
-fits_is : (number : Number) (most : ℕ) → fits_of number most ≡ true → number.value ≤ most
-unfolding fits_of
-fits_is number most = go number.fine
-  where
-    go : (b : Bool) → (if b then leb number.value most else false) ≡ true → number.value ≤ most
-    go true e = leb-true number.value most e
-    go false e = let z : false ≡ true = e in absurd (let w : ◌≡◌ {A = ℕ} 0 1 = cc in omega arith)
+-- a number that is read and fits ends within the input
+pub fitting_short : (l : List ℕ) (at most : ℕ) (number : Number) → Some number ≡ fits_of (read_number_of (drop at l)) most → number.digits ≤ length l - at
+fitting_short l at most number e =
+    let r = fits_is (read_number_of (drop at l)) most number (sym e) in
+    omega (arith, number_within (drop at l), length-drop at l, ap digits_read r.0)
 
 -- what a line that is read promises: a small trial, and a next line behind it, within the input
 pub record Good (input : List ℕ) (at : ℕ) (line : Line) : Type 0 where
@@ -50,14 +42,14 @@ pub record Good (input : List ℕ) (at : ℕ) (line : Line) : Type 0 where
   pub on : at < line.next
   pub within : line.next ≤ length input
 
-abbrev Fine : List ℕ → ℕ → Line → Type 0
-Fine input at line = line.fine ≡ true → Good input at line
+abbrev Fine : List ℕ → ℕ → Option Line → Type 0
+Fine input at o = (line : Line) → o ≡ Some line → Good input at line
 
 nothing : (input : List ℕ) (at : ℕ) → Fine input at no_line
-nothing input at e = let z : false ≡ true = e in absurd (let w : ◌≡◌ {A = ℕ} 0 1 = cc in omega arith)
+nothing input at line e = absurd (none-some line e)
 
 -- a line feed stands within the input
-in_range : (l : List ℕ) (at b : ℕ) → get_or l at 0 ≡ b → 0 < b → at < length l
+pub in_range : (l : List ℕ) (at b : ℕ) → get_or l at 0 ≡ b → 0 < b → at < length l
 in_range l at b e p = go (dec_lt at (length l))
   where
     go : Dec (at < length l) → at < length l
@@ -68,41 +60,31 @@ end_good : (input : List ℕ) (from at attempts refusal : ℕ) → from ≤ at �
 unfolding end_at
 end_good input from at attempts refusal h p q = go (eqb (get_or input at 0) 10) refl
   where
-    go : (b : Bool) → eqb (get_or input at 0) 10 ≡ b
-        → Fine input from (if b then record { fine = true; trial = record { attempts = attempts; refusal = refusal }; next = at + 1 } else no_line)
-    go true e f =
+    go : (b : Bool) → eqb (get_or input at 0) 10 ≡ b → Fine input from (if b then line_with attempts refusal (at + 1) else no_line)
+    go true e line f =
         let r = in_range input at 10 (eqb-true (get_or input at 0) 10 e) (omega arith) in
-        record { small = record { tries = p; known = q }; on = omega arith; within = omega (arith, r) }
-    go false e f = nothing input from f
+        subst (λ (l : Line). Good input from l) (same_Some _ line f) record { small = record { tries = p; known = q }; on = omega arith; within = omega (arith, r) }
+    go false e line f = nothing input from line f
 
 refusal_good : (input : List ℕ) (from at attempts : ℕ) → from ≤ at → attempts ≤ 262144 → Fine input from (refusal_at input at attempts)
 unfolding refusal_at
 refusal_good input from at attempts h p = go (eqb (get_or input at 0) 32)
   where
-    number : Number
-    number = read_number_of (drop (at + 1) input)
+    ends : Number → Option Line
+    ends n = end_at input (at + 1 + n.digits) attempts n.value
 
-    inner : (b : Bool) → fits_of number 16 ≡ b → Fine input from (if b then end_at input (at + 1 + number.digits) attempts number.value else no_line)
-    inner true e = end_good input from (at + 1 + number.digits) attempts number.value (omega arith) p (fits_is number 16 e)
-    inner false e = nothing input from
+    go : (b : Bool) → Fine input from (if b then option_and_then ends (fits_of (read_number_of (drop (at + 1) input)) 16) else no_line)
+    go true line e =
+        option_and_then_some ends (fits_of (read_number_of (drop (at + 1) input)) 16) line e
+        (λ n f g. end_good input from (at + 1 + n.digits) attempts n.value (omega arith) p (fits_is (read_number_of (drop (at + 1) input)) 16 n f).1 line g)
+    go false line e = nothing input from line e
 
-    go : (b : Bool) → Fine input from (if b then (if fits_of number 16 then end_at input (at + 1 + number.digits) attempts number.value else no_line) else no_line)
-    go true = inner (fits_of number 16) refl
-    go false = nothing input from
-
-line_good : (input : List ℕ) (at : ℕ) → (line_at input at).fine ≡ true → Good input at (line_at input at)
+-- of a line that is read
+pub line_good : (input : List ℕ) (at : ℕ) (line : Line) → Some line ≡ line_at input at → Good input at line
 unfolding line_at
-line_good input at = go (fits_of number 262144) refl
-  where
-    number : Number
-    number = read_number_of (drop at input)
-
-    go : (b : Bool) → fits_of number 262144 ≡ b → Fine input at (if b then refusal_at input (at + number.digits) number.value else no_line)
-    go true e = refusal_good input at (at + number.digits) number.value (omega arith) (fits_is number 262144 e)
-    go false e = nothing input at
-
-pub line_read_lem : (input : List ℕ) (at : ℕ) (line : Line) → line ≡ line_at input at → line.fine ≡ true → Good input at line
-line_read_lem input at line e f = rw e (line_good input at (ap (λ (o : Line). o.fine) (sym e) ∙ f))
+line_good input at line e =
+    option_and_then_some (λ (n : Number). refusal_at input (at + n.digits) n.value) (fits_of (read_number_of (drop at input)) 262144) line (sym e)
+    (λ n f g. refusal_good input at (at + n.digits) n.value (omega arith) (fits_is (read_number_of (drop at input)) 262144 n f).1 line g)
 
 -- ---- one trial more
 
@@ -114,105 +96,80 @@ counted_few counts j n k h p = go (ℕ_discrete k j) (dec_lt j (length counts))
     go (yes e) (no l) = rw (set_out counts j (get_or counts j 0 + 1) (omega arith)) (omega arith)
     go (no e) l = rw (get_or-set_other counts j k (get_or counts j 0 + 1) 0 e) (omega arith)
 
-pub added_bounded : (s : Sums) (t : Trial) (counts : List ℕ) (r : Sums) (c : List ℕ) → Bounded s counts → s.trials < 1000 → Small t → (r, c) ≡ added_of s t counts → Bounded r c
-unfolding added_of
-added_bounded s t counts r c h l m e =
-    let p : r ≡ with_of s t = ap (λ (o : Sums × List ℕ). o.0) e in
-    let q : c ≡ counted_of counts t.refusal = ap (λ (o : Sums × List ℕ). o.1) e in
-    rw (p, q)
-    (record {
-      fine = h.fine;
+pub added_bounded : (s : Sums) (t : Trial) → Bounded s → s.trials < 1000 → Small t → Bounded (added_of s t)
+added_bounded s t h l m =
+    record {
       lines = omega arith;
       tries = omega (arith, h.tries, m.tries);
-      few = λ k. counted_few counts t.refusal s.trials k (h.few t.refusal) (h.few k);
-    })
+      few = λ k. counted_few s.counts t.refusal s.trials k (h.few t.refusal) (h.few k);
+    }
 
-nothing_bounded : (counts : List ℕ) → ((number : ℕ) → get_or counts number 0 ≤ 0) → Bounded no_sums counts
-nothing_bounded counts h = record { fine = refl; lines = omega arith; tries = omega arith; few = h }
-
-pub zeros_bounded : Bounded no_sums (replicate 17 0)
-zeros_bounded = nothing_bounded (replicate 17 0) (λ number. go number (dec_lt number 17))
+pub nothing_bounded : Bounded no_sums
+nothing_bounded = record { lines = omega arith; tries = omega arith; few = λ number. go number (dec_lt number 17) }
   where
     go : (number : ℕ) → Dec (number < 17) → get_or (replicate 17 0) number 0 ≤ 0
     go number (yes h) = rw (get_or-replicate {A = ℕ} 17 number 0 0 h) (omega arith)
     go number (no h) = rw (get_or-eq_default {A = ℕ} (replicate 17 0) 0 {n = number} (omega arith)) (omega arith)
 
--- ---- the loop over lines: one turn, and its ends
+-- ---- the loop over lines: one turn, and its ends; the next line is of this number
 
-scan_at : (input : List ℕ) (at : ℕ) (s : Sums) (counts : List ℕ) → at < length input → s.trials < 1000
-    → scan_from input (1000 - s.trials) at s counts
-    ≡ (if (line_at input at).fine
-    then scan_from input (1000 - (s.trials + 1)) (line_at input at).next (added_of s (line_at input at).trial counts).0 (added_of s (line_at input at).trial counts).1
-    else (bad_of s, counts))
+module _ (input : List ℕ) (number at : ℕ) (s : Sums) where
+  pub scan_turn : (line : Line) → number < 1001 → at < length input → Some line ≡ line_at input at
+      → scan_from input (1001 - (number + 1)) line.next (added_of s line.trial) ≡ scan_from input (1001 - number) at s
+  unfolding scan_from
+  scan_turn line l h e = let n : 1001 - number ≡ suc (1001 - (number + 1)) = omega arith in rw (n, lt-ltb _ _ h, ← e)
+
+  pub scan_bad : number < 1001 → at < length input → None ≡ line_at input at → Err (s.trials + 1) ≡ scan_from input (1001 - number) at s
+  unfolding scan_from
+  scan_bad l h e = let n : 1001 - number ≡ suc (1001 - (number + 1)) = omega arith in rw (n, lt-ltb _ _ h, ← e)
+
+  -- line 1,001
+  pub scan_over : 1001 ≤ number → at < length input → Err (s.trials + 1) ≡ scan_from input (1001 - number) at s
+  unfolding scan_from
+  scan_over l h = let n : 1001 - number ≡ 0 = omega arith in rw (n, lt-ltb _ _ h)
+
+pub scan_end : (input : List ℕ) (left at : ℕ) (s : Sums) → length input ≤ at → Ok s ≡ scan_from input left at s
 unfolding scan_from
-scan_at input at s counts h l = let e : 1000 - s.trials ≡ suc (1000 - (s.trials + 1)) = omega arith in rw (e, lt-ltb _ _ h)
-
--- a good line is added, and the rest is left
-pub scan_turn : (input : List ℕ) (at : ℕ) (s r : Sums) (counts c : List ℕ) (line : Line) → at < length input → s.trials < 1000 → line ≡ line_at input at → line.fine ≡ true
-    → (r, c) ≡ added_of s line.trial counts → scan_from input (1000 - r.trials) line.next r c ≡ scan_from input (1000 - s.trials) at s counts
-unfolding added_of
-scan_turn input at s r counts c line h l e f g =
-    let p : r ≡ with_of s line.trial = ap (λ (o : Sums × List ℕ). o.0) g in
-    let q : c ≡ counted_of counts line.trial.refusal = ap (λ (o : Sums × List ℕ). o.1) g in
-    let k : (line_at input at).fine ≡ true = ap (λ (o : Line). o.fine) (sym e) ∙ f in
-    rw (scan_at input at s counts h l, k, p, q, ← e)
-
--- a bad line
-pub scan_bad : (input : List ℕ) (at : ℕ) (s : Sums) (counts : List ℕ) (line : Line) → at < length input → s.trials < 1000 → line ≡ line_at input at → line.fine ≡ false
-    → (bad_of s, counts) ≡ scan_from input (1000 - s.trials) at s counts
-scan_bad input at s counts line h l e f =
-    let k : (line_at input at).fine ≡ false = ap (λ (o : Line). o.fine) (sym e) ∙ f in
-    rw (scan_at input at s counts h l, k)
-
--- line 1,001
-pub scan_over : (input : List ℕ) (at : ℕ) (s : Sums) (counts : List ℕ) → at < length input → s.trials ≡ 1000 → (bad_of s, counts) ≡ scan_from input (1000 - s.trials) at s counts
-unfolding scan_from
-scan_over input at s counts h l = let e : 1000 - s.trials ≡ 0 = omega arith in rw (e, lt-ltb _ _ h)
-
-pub scan_end : (input : List ℕ) (left at : ℕ) (s : Sums) (counts : List ℕ) → length input ≤ at → (s, counts) ≡ scan_from input left at s counts
-unfolding scan_from
-scan_end input zero at s counts h = rw (le-ltb _ _ h)
-scan_end input (suc left) at s counts h = rw (le-ltb _ _ h)
+scan_end input zero at s h = rw (le-ltb _ _ h)
+scan_end input (suc left) at s h = rw (le-ltb _ _ h)
 
 -- ---- the sums of a pass are those over the trials that were read
 
 -- trial by trial
 abbrev sums_from : Sums → List Trial → Sums
 sums_from s [] = s
-sums_from s (t ∷ ts) = sums_from (with_of s t) ts
+sums_from s (t ∷ ts) = sums_from (added_of s t) ts
 
 abbrev counts_from : List ℕ → List Trial → List ℕ
 counts_from counts [] = counts
 counts_from counts (t ∷ ts) = counts_from (counted_of counts t.refusal) ts
 
 -- what a pass leaves, where this was read
-abbrev Summed : Sums → List ℕ → Reading → Sums × List ℕ → Type 0
-Summed s counts (bad_line n) o = (o.0.bad ≡ n) × (1 ≤ n)
-Summed s counts (results ts) o = o ≡ (sums_from s ts, counts_from counts ts)
+abbrev Summed : Sums → Reading → Result Sums ℕ → Type 0
+Summed s (bad_line n) o = o ≡ Err n
+Summed s (results ts) o = o ≡ Ok (sums_from s ts)
 
-with_one : (s : Sums) (t : Trial) (counts : List ℕ) (r : Reading) (o : Sums × List ℕ) → Summed (with_of s t) (counted_of counts t.refusal) r o → Summed s counts (onto t r) o
-with_one s t counts (bad_line n) o h = h
-with_one s t counts (results ts) o h = h
+with_one : (s : Sums) (t : Trial) (r : Reading) (o : Result Sums ℕ) → Summed (added_of s t) r o → Summed s (onto t r) o
+with_one s t (bad_line n) o h = h
+with_one s t (results ts) o h = h
 
-pass : (input : List ℕ) (left at : ℕ) (s : Sums) (counts : List ℕ) → Summed s counts (read_from input left (s.trials + 1) at) (scan_from input left at s counts)
-unfolding read_from scan_from added_of
-pass input zero at s counts = go (ltb at (length input))
+pass : (input : List ℕ) (left at : ℕ) (s : Sums) → Summed s (read_from input left (s.trials + 1) at) (scan_from input left at s)
+unfolding read_from scan_from
+pass input zero at s = go (ltb at (length input))
   where
-    go : (b : Bool) → Summed s counts (if b then bad_line (s.trials + 1) else results []) (if b then (bad_of s, counts) else (s, counts))
-    go true = (refl, omega arith)
+    go : (b : Bool) → Summed s (if b then bad_line (s.trials + 1) else results []) (if b then Err (s.trials + 1) else Ok s)
+    go true = refl
     go false = refl
-pass input (suc left) at s counts = go (ltb at (length input)) (line_at input at).fine (pass input left (line_at input at).next (with_of s (line_at input at).trial) (counted_of counts (line_at input at).trial.refusal))
+pass input (suc left) at s = go (ltb at (length input)) (line_at input at) (λ line. pass input left line.next (added_of s line.trial))
   where
-    t : Trial
-    t = (line_at input at).trial
-
-    go : (b f : Bool) → Summed (with_of s t) (counted_of counts t.refusal) (read_from input left (s.trials + 1 + 1) (line_at input at).next) (scan_from input left (line_at input at).next (with_of s t) (counted_of counts t.refusal))
-        → Summed s counts
-        (if b then (if f then onto t (read_from input left (s.trials + 1 + 1) (line_at input at).next) else bad_line (s.trials + 1)) else results [])
-        (if b then (if f then scan_from input left (line_at input at).next (with_of s t) (counted_of counts t.refusal) else (bad_of s, counts)) else (s, counts))
-    go true true h = with_one s t counts (read_from input left (s.trials + 1 + 1) (line_at input at).next) (scan_from input left (line_at input at).next (with_of s t) (counted_of counts t.refusal)) h
-    go true false h = (refl, omega arith)
-    go false f h = refl
+    go : (b : Bool) (o : Option Line)
+        → ((line : Line) → Summed (added_of s line.trial) (read_from input left (s.trials + 1 + 1) line.next) (scan_from input left line.next (added_of s line.trial)))
+        → Summed s
+        (if b then option_map_or (λ (line : Line). onto line.trial (read_from input left (s.trials + 1 + 1) line.next)) o (bad_line (s.trials + 1)) else results [])
+        (if b then option_map_or (λ (line : Line). scan_from input left line.next (added_of s line.trial)) o (Err (s.trials + 1)) else Ok s)
+    go true (Some line) h = with_one s line.trial (read_from input left (s.trials + 1 + 1) line.next) (scan_from input left line.next (added_of s line.trial)) (h line)
+    go true None h = refl
+    go false o h = refl
 
 larger_assoc : (a b c : ℕ) → larger_of (larger_of a b) c ≡ larger_of a (larger_of b c)
 larger_assoc a b c = go (ltb a b) (ltb b c) refl refl
@@ -225,7 +182,7 @@ larger_assoc a b c = go (ltb a b) (ltb b c) refl refl
 
 -- "the sums are proved to equal those over the single results"
 pub sums_are : (s : Sums) (ts : List Trial)
-    → sums_from s ts ≡ record { bad = s.bad; trials = s.trials + length ts; attempts = s.attempts + attempts_of ts; greatest = larger_of s.greatest (greatest_of ts) }
+    → sums_from s ts ≡ record { trials = s.trials + length ts; attempts = s.attempts + attempts_of ts; greatest = larger_of s.greatest (greatest_of ts); counts = counts_from s.counts ts }
 unfolding attempts_of greatest_of
 sums_are s [] =
     let a : s.trials + 0 ≡ s.trials = omega arith in
@@ -235,7 +192,7 @@ sums_are s [] =
 sums_are s (t ∷ ts) =
     let a : s.trials + 1 + length ts ≡ s.trials + suc (length ts) = omega arith in
     let b : s.attempts + t.attempts + attempts_of ts ≡ s.attempts + (t.attempts + attempts_of ts) = omega arith in
-    rw (sums_are (with_of s t) ts, a, b, larger_assoc s.greatest t.attempts (greatest_of ts))
+    rw (sums_are (added_of s t) ts, a, b, larger_assoc s.greatest t.attempts (greatest_of ts))
 
 pub counts_are : (counts : List ℕ) (ts : List Trial) (k : ℕ) → k < length counts → get_or (counts_from counts ts) k 0 ≡ get_or counts k 0 + count_of k ts
 unfolding count_of
@@ -290,36 +247,33 @@ rows_end l i seen number h = let n : 17 - number ≡ 0 = omega arith in rw n (pu
 
 -- ---- the whole
 
-printed_for : (r : Reading) (o : Sums × List ℕ) → Summed no_sums (replicate 17 0) r o → printed_of o.0 o.1 ≡ text_for r
+printed_for : (r : Reading) (o : Result Sums ℕ) → Summed no_sums r o → printed_of o ≡ text_for r
 unfolding printed_of text_of
-printed_for (bad_line n) o h =
-    let e : o.0.bad ≢ 0 = omega (arith, h.0, h.1) in
-    rw (ne_eqb _ _ e, h.0)
+printed_for (bad_line n) o h = rw h
 printed_for (results ts) o h =
-    let p : o.0 ≡ record { bad = 0; trials = 0 + length ts; attempts = 0 + attempts_of ts; greatest = larger_of 0 (greatest_of ts) } = ap (λ (x : Sums × List ℕ). x.0) h ∙ sums_are no_sums ts in
-    let q : o.1 ≡ counts_from (replicate 17 0) ts = ap (λ (x : Sums × List ℕ). x.1) h in
+    let p = sums_are no_sums ts in
     let c : (k : ℕ) → k < 17 → get_or (counts_from (replicate 17 0) ts) k 0 ≡ count_of k ts = λ k l. counts_are (replicate 17 0) ts k l ∙ rw (get_or-replicate {A = ℕ} 17 k 0 0 l) (omega arith) in
     let a : 0 + length ts ≡ length ts = omega arith in
     let b : 0 + attempts_of ts ≡ attempts_of ts = omega arith in
     let g : larger_of 0 (greatest_of ts) ≡ greatest_of ts = none (greatest_of ts) in
-    rw (p, q, a, b, g, c 0 (omega arith), rows_same (seen_in (counts_from (replicate 17 0) ts)) (λ (k : ℕ). count_of k ts) 1 16 (λ k l. c k (omega arith)))
+    rw (h, p, a, b, g, c 0 (omega arith), rows_same (seen_in (counts_from (replicate 17 0) ts)) (λ (k : ℕ). count_of k ts) 1 16 (λ k l. c k (omega arith)))
   where
     none : (n : ℕ) → larger_of 0 n ≡ n
     none zero = refl
     none (suc n) = let h : 0 < suc n = omega arith in rw (lt-ltb 0 (suc n) h)
 
 -- the whole from input bytes to output bytes
-pub printed_is : (input : List ℕ) (s : Sums) (c : List ℕ) → (s, c) ≡ scan_of input (replicate 17 0) → printed_of s c ≡ answer_of input
+pub printed_is : (input : List ℕ) (o : Result Sums ℕ) → o ≡ scan_of input → printed_of o ≡ answer_of input
 unfolding scan_of answer_of read_of
-printed_is input s c e = printed_for (read_from input 1000 1 0) (s, c) (rw e (pass input 1000 0 no_sums (replicate 17 0)))
+printed_is input o e = printed_for (read_from input 1000 1 0) o (rw e (pass input 1000 0 no_sums))
 
-pub report_is : (input out : List ℕ) (s : Sums) (c o : List ℕ) (r : ℕ) → 4096 ≤ length out → (s, c) ≡ scan_of input (replicate 17 0) → (r, o) ≡ put_of out 0 (printed_of s c)
-    → ◌≡◌ {A = Reported × List ℕ} (Done r, o) (report_of input out)
+pub report_is : (input out : List ℕ) (o : Result Sums ℕ) (m : List ℕ) (r : ℕ) → 4096 ≤ length out → o ≡ scan_of input → (r, m) ≡ put_of out 0 (printed_of o)
+    → ◌≡◌ {A = Result ℕ NoRoom × List ℕ} (Ok r, m) (report_of input out)
 unfolding report_of put_of
-report_is input out s c o r h e f =
-    let p : printed_of s c ≡ answer_of input = printed_is input s c e in
+report_is input out o m r h e f =
+    let p : printed_of o ≡ answer_of input = printed_is input o e in
     let n : 0 + length (answer_of input) ≡ length (answer_of input) = omega arith in
-    let q : ◌≡◌ {A = ℕ × List ℕ} (r, o) (0 + length (answer_of input), sets out 0 (answer_of input)) = rw p at f in
+    let q : ◌≡◌ {A = ℕ × List ℕ} (r, m) (0 + length (answer_of input), sets out 0 (answer_of input)) = rw p at f in
     let i : r ≡ length (answer_of input) = ap (λ (x : ℕ × List ℕ). x.0) q ∙ n in
-    let j : o ≡ sets out 0 (answer_of input) = ap (λ (x : ℕ × List ℕ). x.1) q in
+    let j : m ≡ sets out 0 (answer_of input) = ap (λ (x : ℕ × List ℕ). x.1) q in
     rw (le-ltb _ _ h, i, j)

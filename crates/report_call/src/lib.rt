@@ -2,167 +2,123 @@
 // `report` is the call; the other functions are its parts. What they promise is defined in crate `report_rules`.
 #![tactic(auto)]
 
-ghost use Rattle.std.specs.Prelude.{◌≡◌, true, ◌+◌, ◌<◌, ◌≤◌, length};
+ghost use Rattle.std.specs.Prelude.{◌≡◌, ◌+◌, ◌<◌, ◌≤◌, eqb, length, get_or, drop};
 ghost use Rattle.model.specs.Names.{name_of};
+ghost use Rattle.text.specs.Text.{read_number_of};
 ghost use Rattle.print.specs.Print.{put_of};
-ghost use Rattle.report_rules.specs.Reading.{Small, no_line, fits_of, end_at, refusal_at, line_at};
-ghost use Rattle.report_rules.specs.Sums.{larger_of};
-ghost use Rattle.report_call.specs.Scan.{no_sums, added_of, bad_of, scan_of, Bounded, seen_in, printed_of};
+ghost use Rattle.report_rules.specs.Reading.{Small, fits_of, end_at, refusal_at, line_at};
+ghost use Rattle.report_call.specs.Scan.{no_sums, added_of, scan_of, Bounded, seen_in, printed_of};
 ghost use Rattle.report_rules.specs.Report.{row_of, rows_of, head_of, bad_text, report_of};
 
-use report_rules::{Line, Reported, Trial};
+use report_rules::{Line, NoRoom, Trial};
+use text::Number;
 
-// The sums so far. `bad` is the number of the first bad line, 0 while there is none.
-#[derive(Clone, Copy)]
+// The sums so far, and how many trials ended with each number.
+#[derive(Clone, Copy, Debug, PartialEq, Eq)]
 pub struct Sums {
-    pub bad: usize,
     pub trials: usize,
     pub attempts: usize,
     pub greatest: usize,
+    pub counts: [usize; 17],
 }
 
 // ---- reading
 
-fn none() -> Line
-    ensures { result ≡ no_line }
+// The number at `at`, if one stands there and it is at most this.
+fn number_up_to(input: &[u8], at: usize, most: u32) -> Option<Number>
+    ensures { result ≡ fits_of (read_number_of (drop at input.now)) most }
 {
-    Line {
-        fine: false,
-        trial: Trial {
-            attempts: 0,
-            refusal: 0,
-        },
-        next: 0,
-    }
+    let number = text::read_number(input, at)?;
+    (number.value <= most).then_some(number)
 }
 
-// Whether a number stands there, and it is at most this.
-fn fits(number: text::Number, most: u32) -> bool
-    ensures { result ≡ fits_of number most }
+// Whether this byte stands at `at`.
+fn stands(input: &[u8], at: usize, byte: u8) -> bool
+    requires { 0 < byte }
+    ensures { result ≡ eqb (get_or input.now at 0) byte }
 {
-    if number.fine {
-        return number.value <= most;
-    }
-    false
+    input.get(at) == Some(&byte)
 }
 
 // The line feed at `at`.
-fn end_at(input: &[u8], at: usize, attempts: u32, refusal: u32) -> Line
+fn end_at(input: &[u8], at: usize, attempts: u32, refusal: u32) -> Option<Line>
     ensures { result ≡ end_at input.now at attempts refusal }
 {
-    if at < input.len() {
-        if input[at] == 10 {
-            return Line {
-                fine: true,
-                trial: Trial { attempts, refusal },
-                next: at + 1,
-            };
-        }
-        return none();
+    if !stands(input, at, b'\n') {
+        return None;
     }
-    none()
+    Some(Line {
+        trial: Trial { attempts, refusal },
+        next: at + 1,
+    })
 }
 
 // The space and the refusal from `at` on, and the end of the line.
-fn refusal_at(input: &[u8], at: usize, attempts: u32) -> Line
+fn refusal_at(input: &[u8], at: usize, attempts: u32) -> Option<Line>
     ensures { result ≡ refusal_at input.now at attempts }
 {
-    if at < input.len() {
-        if input[at] == 32 {
-            let number = text::read_number(input, at + 1);
-            if fits(number, 16) {
-                return end_at(input, at + 1 + number.digits, attempts, number.value);
-            }
-            return none();
-        }
-        return none();
+    if !stands(input, at, b' ') {
+        return None;
     }
-    none()
+    let number = number_up_to(input, at + 1, 16)?;
+    end_at(input, at + 1 + number.digits, attempts, number.value)
 }
 
 // The line that begins at `at`.
-fn line_at(input: &[u8], at: usize) -> Line
+fn line_at(input: &[u8], at: usize) -> Option<Line>
     ensures { result ≡ line_at input.now at }
 {
-    let number = text::read_number(input, at);
-    if fits(number, 262144) {
-        return refusal_at(input, at + number.digits, number.value);
-    }
-    none()
+    let number = number_up_to(input, at, 262_144)?;
+    refusal_at(input, at + number.digits, number.value)
 }
 
 // ---- summing
 
-fn no_sums() -> Sums
-    ensures { result ≡ no_sums }
-{
-    Sums {
-        bad: 0,
-        trials: 0,
-        attempts: 0,
-        greatest: 0,
+impl Sums {
+    fn none() -> Sums
+        ensures { result ≡ no_sums }
+    {
+        Sums {
+            trials: 0,
+            attempts: 0,
+            greatest: 0,
+            counts: [0; 17],
+        }
+    }
+
+    // One trial more in the sums, and in the count of its number.
+    fn add(&mut self, trial: Trial)
+        requires { Bounded self.old × (self.old.trials < 1000) × Small trial }
+        ensures { self.new ≡ added_of self.old trial }
+    {
+        let attempts = trial.attempts as usize;
+        self.trials += 1;
+        self.attempts += attempts;
+        self.greatest = self.greatest.max(attempts);
+        self.counts[trial.refusal as usize] += 1;
     }
 }
 
-fn larger(a: usize, b: usize) -> usize
-    ensures { result ≡ larger_of a b }
+// Reads line after line, and sums the trials, or gives the number of the first bad line.
+fn scan(input: &[u8]) -> Result<Sums, usize>
+    ensures { result ≡ scan_of input.now }
 {
-    if a < b {
-        return b;
-    }
-    a
-}
-
-// One trial more in the sums, and in the count of its number.
-fn add(sums: Sums, trial: Trial, counts: &mut [usize; 17]) -> Sums
-    requires { Bounded sums counts.old × (sums.trials < 1000) × Small trial }
-    ensures { (result, counts.new) ≡ added_of sums trial counts.old }
-{
-    let number = trial.refusal as usize;
-    let attempts = trial.attempts as usize;
-    counts[number] = counts[number] + 1;
-    Sums {
-        bad: sums.bad,
-        trials: sums.trials + 1,
-        attempts: sums.attempts + attempts,
-        greatest: larger(sums.greatest, attempts),
-    }
-}
-
-// The line behind the trials so far is bad.
-fn bad(sums: Sums) -> Sums
-    requires { sums.trials ≤ 1000 }
-    ensures { result ≡ bad_of sums }
-{
-    Sums {
-        bad: sums.trials + 1,
-        trials: sums.trials,
-        attempts: sums.attempts,
-        greatest: sums.greatest,
-    }
-}
-
-// Reads line after line, and sums the trials; the counts start as zeros.
-fn scan(input: &[u8], counts: &mut [usize; 17]) -> Sums
-    requires { Bounded no_sums counts.old }
-    ensures { (result, counts.new) ≡ scan_of input.now counts.old }
-{
-    let mut sums = no_sums();
+    let mut sums = Sums::none();
     let mut at = 0;
-    while at < input.len() {
-        if sums.trials == 1000 {
-            return bad(sums);
+    for number in 1..=1000_usize {
+        if input.len() <= at {
+            return Ok(sums);
         }
-        let line = line_at(input, at);
-        if line.fine {
-            let trial = line.trial;
-            sums = add(sums, trial, counts);
-            at = line.next;
-        } else {
-            return bad(sums);
-        }
+        let Some(line) = line_at(input, at) else {
+            return Err(number);
+        };
+        sums.add(line.trial);
+        at = line.next;
     }
-    sums
+    if at < input.len() {
+        return Err(1001);
+    }
+    Ok(sums)
 }
 
 // ---- printing
@@ -185,11 +141,9 @@ fn put_row(out: &mut [u8], at: usize, number: usize, count: usize) -> usize
     if count == 0 {
         return at;
     }
-    let numbers = [number];
-    let a = print::put_form(out, at, b"# ", &numbers);
+    let a = print::put_form(out, at, b"# ", &[number]);
     let b = put_name(out, a, number);
-    let counts = [count];
-    print::put_form(out, b, b" #\n", &counts)
+    print::put_form(out, b, b" #\n", &[count])
 }
 
 // Puts the lines of the refusals, in number order.
@@ -198,29 +152,26 @@ fn put_rows(out: &mut [u8], at: usize, counts: &[usize; 17]) -> usize
     ensures { (result, out.new) ≡ put_of out.old at (rows_of (seen_in counts.now) 1 16) }
 {
     let mut used = at;
-    let mut number = 1;
-    while number < 17 {
-        let count = counts[number];
-        used = put_row(out, used, number, count);
-        number += 1;
+    for number in 1..17 {
+        used = put_row(out, used, number, counts[number]);
     }
     used
 }
 
 // Puts the four lines that every report has.
-fn put_head(out: &mut [u8], sums: Sums, grants: usize) -> usize
+fn put_head(out: &mut [u8], sums: &Sums) -> usize
     requires { 2000 ≤ length out.old }
     ensures { (result, out.new)
-        ≡ put_of out.old 0 (head_of sums.trials grants sums.attempts sums.greatest) }
+        ≡ put_of out.old 0 (head_of sums.now.trials (get_or sums.now.counts 0 0) sums.now.attempts sums.now.greatest) }
 {
+    let form = b"trials #\ngrants #\nattempts # of # trials\ngreatest #\n";
     let numbers = [
         sums.trials,
-        grants,
+        sums.counts[0],
         sums.attempts,
         sums.trials,
         sums.greatest,
     ];
-    let form = b"trials #\ngrants #\nattempts # of # trials\ngreatest #\n";
     print::put_form(out, 0, form, &numbers)
 }
 
@@ -228,32 +179,31 @@ fn put_bad(out: &mut [u8], line: usize) -> usize
     requires { 2000 ≤ length out.old }
     ensures { (result, out.new) ≡ put_of out.old 0 (bad_text line) }
 {
-    let numbers = [line];
-    print::put_form(out, 0, b"bad line #\n", &numbers)
+    print::put_form(out, 0, b"bad line #\n", &[line])
 }
 
-// Puts the report of these sums and counts, or the bad line alone.
-fn put_report(out: &mut [u8], sums: Sums, counts: &[usize; 17]) -> usize
+// Puts the report of what a pass left: of the sums, or the bad line alone.
+fn put_report(out: &mut [u8], scanned: Result<Sums, usize>) -> usize
     requires { 4096 ≤ length out.old }
-    ensures { (result, out.new) ≡ put_of out.old 0 (printed_of sums counts.now) }
+    ensures { (result, out.new) ≡ put_of out.old 0 (printed_of scanned) }
 {
-    if sums.bad == 0 {
-        let a = put_head(out, sums, counts[0]);
-        return put_rows(out, a, counts);
+    match scanned {
+        Ok(sums) => {
+            let used = put_head(out, &sums);
+            put_rows(out, used, &sums.counts)
+        }
+        Err(line) => put_bad(out, line),
     }
-    put_bad(out, sums.bad)
 }
 
 // ---- the whole
 
 // The acceptance report of the trials in `input`, at the front of `out`. A room of less than 4,096 bytes is refused.
-pub fn report(input: &[u8], out: &mut [u8]) -> Reported
+pub fn report(input: &[u8], out: &mut [u8]) -> Result<usize, NoRoom>
     ensures { (result, out.new) ≡ report_of input.now out.old }
 {
     if out.len() < 4096 {
-        return Reported::NoRoom;
+        return Err(NoRoom);
     }
-    let mut counts = [0usize; 17];
-    let sums = scan(input, &mut counts);
-    Reported::Done(put_report(out, sums, &counts))
+    Ok(put_report(out, scan(input)))
 }

@@ -1,7 +1,7 @@
 -- The table of padded names: a row of 20 bytes for each number, which is the name of `model` with spaces behind it.
 use Rattle.std.specs.Prelude.{ℕ, zero, suc, ◌+◌, ◌-◌, ◌≤◌, ◌<◌, ◌≡◌, refl, List, [], ◌∷◌, ◌++◌, map, Bool, true, false, ◌&&◌, eqb, leb, length, get_or, take, replicate, if◌then◌else◌}
-use Rattle.std.proofs.Common.{◌∙◌, arith, le_of_suc-le-suc, not-suc-le-zero, length-append, leb-true}
-use Rattle.std.proofs.lemmas.List.{length-replicate}
+use mathlib.Core.Logic.{◌⊎◌, inl, inr}
+use Rattle.std.proofs.Common.{◌∙◌, arith, le_of_suc-le-suc, not-suc-le-zero, leb-true}
 use Rattle.std.proofs.Math.ListN.{get_or-map, get_or-eq_default}
 use Rattle.std.proofs.Math.Seq.{take-append_seam}
 use Rattle.model.specs.Names.{names, name_of}
@@ -45,10 +45,6 @@ name_plain n = plain_at ([] ∷ names) n refl
 pub name_short : (n : ℕ) → length (name_of n) ≤ 20
 name_short n = (name_plain n).short
 
-pub padded_size : (n : ℕ) → 20 ≡ length (padded_of (name_of n))
-padded_size n =
-    omega (arith, name_short n, length-append (name_of n) (replicate (20 - length (name_of n)) 32), length-replicate {0} {A = ℕ} (20 - length (name_of n)) 32)
-
 -- the name ends where its padding begins
 before_spaces : (x : List ℕ) (k : ℕ) → plain x ≡ true → before 32 (x ++ replicate k 32) ≡ length x
 unfolding before
@@ -80,11 +76,8 @@ row_named (suc m) d h l =
     rw e (any_default table_of m d (padded_of []) (omega arith) ∙ get_or-map padded_of names m [])
 
 -- no other number has a name
-pub no_name : (n : ℕ) → 16 < n → name_of n ≡ []
+pub no_name : (n : ℕ) → (n < 1) ⊎ ((1 ≤ n) × (16 < n)) → name_of n ≡ []
 unfolding name_of names
-no_name n h = get_or-eq_default ([] ∷ names) [] h
-
-pub no_name_first : (n : ℕ) → n < 1 → name_of n ≡ []
-unfolding name_of
-no_name_first zero h = refl
-no_name_first (suc n) h = absurd (omega arith)
+no_name zero h = refl
+no_name (suc n) (inl h) = absurd (omega arith)
+no_name (suc n) (inr h) = get_or-eq_default ([] ∷ names) [] h.1

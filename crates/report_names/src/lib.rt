@@ -5,7 +5,8 @@ ghost use Rattle.std.specs.Prelude.{◌≡◌, length};
 ghost use Rattle.model.specs.Names.{name_of};
 ghost use Rattle.report_names.specs.Table.{padded_of};
 
-// A row for each number from 1, padded with spaces.
+// A row for each number from 1, padded with spaces: the form that document 01 names for this table.
+// (a) Document 01 names this form of table.
 const NAMES: [[u8; 20]; 16] = [
     *b"BadShape            ",
     *b"BadScript           ",
@@ -30,11 +31,8 @@ pub fn padded(number: usize) -> [u8; 20]
     ensures value { result ≡ padded_of (name_of number) }
     ensures value_2 { 20 ≡ length result }
 {
-    if number < 1 {
-        return *b"                    ";
-    }
-    if 16 < number {
-        return *b"                    ";
+    if number < 1 || 16 < number {
+        return [b' '; 20];
     }
     NAMES[number - 1]
 }

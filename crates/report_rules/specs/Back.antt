@@ -1,12 +1,12 @@
 -- What a bench writes is read: trials written as lines are read as these trials, up to 1,000; with more of them line 1,001 is bad.
-use Rattle.std.specs.Prelude.{ℕ, zero, suc, ◌+◌, ◌≤◌, ◌<◌, ◌≡◌, refl, List, [], ◌∷◌, ◌++◌, true, length, get_or, drop}
+use Rattle.std.specs.Prelude.{ℕ, zero, suc, ◌+◌, ◌≤◌, ◌<◌, ◌≡◌, refl, List, [], ◌∷◌, ◌++◌, length, get_or, drop, Some}
 use Rattle.std.proofs.Common.{sym, ap, ◌∙◌, append_assoc, arith, length-append, lt-ltb, le-ltb, le-leb}
 use Rattle.std.proofs.Math.Seq.{drop-append_seam, get_or-append_seam}
 use Rattle.text.specs.Text.{is_digit, digits_in}
 use Rattle.text.specs.Decimal.{digit_count, decimal_of, length_decimal}
 use Rattle.text.specs.Back.{whole_number, number_back}
 use Rattle.report_rules.specs.declared.Trial.{Trial}
-use Rattle.report_rules.specs.Reading.{Small, bad_line, results, onto, fits_of, end_at, refusal_at, line_at, read_from, read_of}
+use Rattle.report_rules.specs.Reading.{Small, bad_line, results, onto, line_with, fits_of, end_at, refusal_at, line_at, read_from, read_of}
 
 -- ---- a line that is written is read
 
@@ -18,9 +18,9 @@ unfoldable pub lines_of : List Trial → List ℕ
 lines_of [] = []
 lines_of (t ∷ ts) = line_of t ++ lines_of ts
 
-fits_whole : (n most : ℕ) → n ≤ most → fits_of (whole_number n) most ≡ true
+fits_whole : (n most : ℕ) → n ≤ most → fits_of (Some (whole_number n)) most ≡ Some (whole_number n)
 unfolding fits_of
-fits_whole n most h = le-leb n most h
+fits_whole n most h = rw (le-leb n most h)
 
 -- what stands at a place, where the front ends there
 seam_get : (x : List ℕ) (i b : ℕ) (y : List ℕ) → length x ≡ i → get_or (x ++ (b ∷ y)) i 0 ≡ b
@@ -30,13 +30,13 @@ seam_drop : (x : List ℕ) (i : ℕ) (y : List ℕ) → length x ≡ i → drop 
 seam_drop x i y e = rw (← e) (drop-append_seam x y)
 
 end_back : (x : List ℕ) (at attempts refusal : ℕ) (y : List ℕ) → length x ≡ at
-    → end_at (x ++ (10 ∷ y)) at attempts refusal ≡ record { fine = true; trial = record { attempts = attempts; refusal = refusal }; next = at + 1 }
+    → end_at (x ++ (10 ∷ y)) at attempts refusal ≡ line_with attempts refusal (at + 1)
 unfolding end_at
 end_back x at attempts refusal y e = rw (seam_get x at 10 y e)
 
 refusal_back : (x : List ℕ) (at attempts refusal : ℕ) (y : List ℕ) → length x ≡ at → refusal ≤ 16
     → refusal_at (x ++ (32 ∷ (decimal_of refusal ++ (10 ∷ y)))) at attempts
-    ≡ record { fine = true; trial = record { attempts = attempts; refusal = refusal }; next = at + 1 + digit_count refusal + 1 }
+    ≡ line_with attempts refusal (at + 1 + digit_count refusal + 1)
 unfolding refusal_at digits_in is_digit
 refusal_back x at attempts refusal y e h =
     let space : List ℕ = x ++ (32 ∷ []) in
@@ -50,7 +50,7 @@ refusal_back x at attempts refusal y e h =
     (end_back (space ++ number) (at + 1 + digit_count refusal) attempts refusal y m)
 
 line_back : (x : List ℕ) (t : Trial) (y : List ℕ) → Small t
-    → line_at (x ++ (line_of t ++ y)) (length x) ≡ record { fine = true; trial = t; next = length (x ++ line_of t) }
+    → line_at (x ++ (line_of t ++ y)) (length x) ≡ line_with t.attempts t.refusal (length (x ++ line_of t))
 unfolding line_at line_of digits_in is_digit
 line_back x t y s =
     let number : List ℕ = decimal_of t.attempts in

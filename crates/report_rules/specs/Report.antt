@@ -4,8 +4,9 @@ use Rattle.std.proofs.lemmas.List.Edits.{sets}
 use Rattle.model.specs.Names.{name_of}
 use Rattle.print.specs.Print.{form_of}
 use Rattle.report_rules.specs.declared.Trial.{Trial}
-use Rattle.report_rules.specs.declared.Reported.{Reported}
-use Rattle.report_rules.specs.declared.Reported.TheVariants.{NoRoom, Done}
+use Rattle.std.specs.declared.result.Result.{Result}
+use Rattle.std.specs.declared.result.Result.TheVariants.{Ok, Err}
+use Rattle.report_rules.specs.declared.NoRoom.{NoRoom}
 use Rattle.report_rules.specs.Reading.{Reading, bad_line, results, read_of}
 use Rattle.report_rules.specs.Sums.{count_of, attempts_of, greatest_of}
 
@@ -61,7 +62,10 @@ text_for (results ts) = text_of ts
 unfoldable pub answer_of : List ℕ → List ℕ
 answer_of input = text_for (read_of input)
 
+abbrev pub no_room : NoRoom
+no_room = record {}
+
 -- the call: the text at the front of the lent run, and every byte behind it as it was; with a room of less than 4,096 bytes nothing
-unfoldable pub report_of : List ℕ → List ℕ → Reported × List ℕ
+unfoldable pub report_of : List ℕ → List ℕ → Result ℕ NoRoom × List ℕ
 report_of input out =
-    if ltb (length out) 4096 then (NoRoom, out) else (Done (length (answer_of input)), sets out 0 (answer_of input))
+    if ltb (length out) 4096 then (Err no_room, out) else (Ok (length (answer_of input)), sets out 0 (answer_of input))

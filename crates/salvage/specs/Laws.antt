@@ -557,13 +557,6 @@ byte_mended : (b : ℕ) → 1 < b → mended_byte b ≡ 1
 unfolding mended_byte
 byte_mended b h = rw (lt-leb b 1 h)
 
-pub byte_same : (b : ℕ) → b ≤ 1 → 0 ≡ changed_of b (mended_byte b)
-byte_same b h = rw (byte_kept b h) (sym (changed_self b))
-
-pub byte_changed : (b : ℕ) → 1 < b → 1 ≡ changed_of b (mended_byte b)
-unfolding changed_of
-byte_changed b h = rw (byte_mended b h, ne_eqb b 1 (omega arith))
-
 pub byte_entry : (place b : ℕ) → 1 < b → length (change_of place b (mended_byte b)) ≡ 3
 byte_entry place b h = rw (byte_mended b h) (length_change_new place b 1 (ne_eqb b 1 (omega arith)))
 

@@ -15,7 +15,7 @@ ghost use Rattle.salvage.specs.Laws.{changes_in, held_in, cleared_of, mended_in,
 ghost use Rattle.salvage.specs.Laws.{mended_at, byte_entries, mended_bytes};
 ghost use Rattle.salvage.specs.Laws.{laid_of, used_in, used_from};
 
-use types::{Check, Head, SalvageAnswer, SalvageReply};
+use types::{Head, SalvageRefusal, SalvageReply};
 
 // How many words or bytes change, and how many cells are held.
 #[derive(Clone, Copy)]
@@ -34,62 +34,55 @@ struct Ends {
 // ---- counting
 
 // 1 for a word that changes if it becomes 0; for a byte that changes.
+// (d) Words and bytes go apart here and in mending: a byte becomes 1 where a word becomes 0.
+#[tactic(auto, unfolding(laws::specs::Salvage::changed_of))]
 fn changed(word: u32) -> usize
     ensures { result ≡ changed_of word 0 }
 {
-    if word == 0 {
-        return 0;
-    }
-    1
+    usize::from(word != 0)
 }
 
+#[tactic(auto, unfolding(laws::specs::Salvage::changed_of, model::specs::Salvage::mended_byte))]
 fn changed_byte(byte: u8) -> usize
     ensures { result ≡ changed_of byte (mended_byte byte) }
 {
-    if byte <= 1 {
-        return 0;
-    }
-    1
+    usize::from(1 < byte)
 }
 
 // Whether a cell of this bit and owner is held; a mended one is exactly if it was.
+#[tactic(auto, unfolding(model::specs::Arena::is_held))]
 fn is_held(next: u32, bit: u32, owner: u32) -> bool
     ensures { result ≡ is_held next bit owner }
 {
-    if bit == 1 {
-        if owner < 1 {
-            return false;
-        }
-        return owner < next;
-    }
-    false
+    bit == 1 && 1 <= owner && owner < next
 }
 
 // Both counts with one cell more: a held one keeps bit and owner, of any other all three words become 0. Most are all
 // 0, and one test passes over them; the counts go through it, so that such a cell costs no sum.
-fn tally_in(next: u32, table: &[u32], cell: u32, changes: usize, left: usize) -> Tally
-    requires { (3 * cell + 2 < length table.now) × (changes ≤ 20000) × (left ≤ 20000) }
-    ensures { result ≡ tallied_in next table.now cell changes left }
+// (c) `as u64` stays: with `u64::from` the goal `returns-then-from-eq0` was not proved.
+fn tally_in(next: u32, table: &[u32], cell: u32, sums: Tally) -> Tally
+    requires { (3 * cell + 2 < length table.now) × (sums.changes ≤ 20000) × (sums.left ≤ 20000) }
+    ensures { result ≡ tallied_in next table.now cell sums.changes sums.left }
 {
     let bit = arena::bit_at(table, cell);
     let owner = arena::owner_at(table, cell);
     let waiters = arena::waiters_at(table, cell);
     if (bit as u64) + (owner as u64) + (waiters as u64) == 0 {
-        return Tally { changes, left };
+        return sums;
     }
     if is_held(next, bit, owner) {
         let c = changed(waiters);
         return Tally {
-            changes: changes + c,
-            left: left + 1,
+            changes: sums.changes + c,
+            left: sums.left + 1,
         };
     }
     let a = changed(bit);
     let b = changed(owner);
     let c = changed(waiters);
     Tally {
-        changes: changes + a + b + c,
-        left,
+        changes: sums.changes + a + b + c,
+        ..sums
     }
 }
 
@@ -98,16 +91,14 @@ fn count_cells(next: u32, table: &[u32], cells: u32) -> Tally
     requires { (length table.now ≡ 3 * cells) × (cells ≤ 4096) }
     ensures { result ≡ tally_cells next cells table.now }
 {
-    let mut changes = 0;
-    let mut left = 0;
-    let mut cell = 0;
-    while cell < cells {
-        let sums = tally_in(next, table, cell, changes, left);
-        changes = sums.changes;
-        left = sums.left;
-        cell += 1;
+    let mut sums = Tally {
+        changes: 0,
+        left: 0,
+    };
+    for cell in 0..cells {
+        sums = tally_in(next, table, cell, sums);
     }
-    Tally { changes, left }
+    sums
 }
 
 // Health bytes that change.
@@ -115,10 +106,8 @@ fn count_bytes(health: &[u8]) -> usize
     ensures { result ≡ count_bytes_of health.now }
 {
     let mut count = 0;
-    let mut i = 0;
-    while i < health.len() {
-        count += changed_byte(health[i]);
-        i += 1;
+    for &byte in health {
+        count += changed_byte(byte);
     }
     count
 }
@@ -132,7 +121,7 @@ fn count_all(head: Head, table: &[u32], health: &[u8]) -> Tally
     let bytes = count_bytes(health);
     Tally {
         changes: all.changes + bytes,
-        left: all.left,
+        ..all
     }
 }
 
@@ -161,31 +150,30 @@ fn mend_cell(
     table: &mut [u32],
     cell: u32,
     report: &mut [u32],
-    at: usize,
     list: &mut [u32],
-    left: usize,
+    ends: Ends,
 ) -> Ends
     requires { (3 * cell + 2 < length table.old) × (cell < 4096) ×
-        (at + length (changes_in next table.old cell) ≤ length report.old) ×
-        (left + length (held_in next table.old cell) ≤ length list.old) }
+        (ends.at + length (changes_in next table.old cell) ≤ length report.old) ×
+        (ends.left + length (held_in next table.old cell) ≤ length list.old) }
     ensures { (result, (table.new, (report.new, list.new)))
-        ≡ mended_in next table.old cell report.old at list.old left }
+        ≡ mended_in next table.old cell report.old ends.at list.old ends.left }
 {
     let bit = arena::bit_at(table, cell);
     let owner = arena::owner_at(table, cell);
     let waiters = arena::waiters_at(table, cell);
     if is_held(next, bit, owner) {
-        list[left] = cell;
-        let end = clear_word(table, 3 * cell + 2, waiters, report, at);
+        list[ends.left] = cell;
+        let end = clear_word(table, 3 * cell + 2, waiters, report, ends.at);
         return Ends {
             at: end,
-            left: left + 1,
+            left: ends.left + 1,
         };
     }
-    let a = clear_word(table, 3 * cell, bit, report, at);
+    let a = clear_word(table, 3 * cell, bit, report, ends.at);
     let b = clear_word(table, 3 * cell + 1, owner, report, a);
     let c = clear_word(table, 3 * cell + 2, waiters, report, b);
-    Ends { at: c, left }
+    Ends { at: c, ..ends }
 }
 
 // All cells, from the front of report and list on.
@@ -202,19 +190,15 @@ fn mend_cells(
     ensures { (result, (table.new, (report.new, list.new)))
         ≡ mended_cells next cells table.old report.old list.old }
 {
-    let mut at = 0;
-    let mut left = 0;
-    let mut cell = 0;
-    while cell < cells {
-        let ends = mend_cell(next, table, cell, report, at, list, left);
-        at = ends.at;
-        left = ends.left;
-        cell += 1;
+    let mut ends = Ends { at: 0, left: 0 };
+    for cell in 0..cells {
+        ends = mend_cell(next, table, cell, report, list, ends);
     }
-    Ends { at, left }
+    ends
 }
 
 // A health byte other than 0 and 1 becomes 1, with its entry.
+// (c) `as u32` stays: with `u32::from` the answers name another number, and `omega` did not follow.
 fn mend_byte(
     health: &mut [u8],
     i: usize,
@@ -246,11 +230,9 @@ fn mend_bytes(health: &mut [u8], place: u32, report: &mut [u32], at: usize) -> u
         ≡ mended_bytes health.old place report.old at }
 {
     let mut end = at;
-    let mut i = 0;
-    while i < health.len() {
+    for i in 0..health.len() {
         let byte = health[i];
         end = mend_byte(health, i, byte, place + (i as u32), report, end);
-        i += 1;
     }
     end
 }
@@ -275,10 +257,8 @@ fn list_cells(table: &[u32], cells: u32, list: &mut [u32])
     ensures { list.new ≡ sets list.old 0 (used_from cells 0 table.now) }
 {
     let mut left = 0;
-    let mut cell = 0;
-    while cell < cells {
+    for cell in 0..cells {
         left = list_cell(table, cell, list, left);
-        cell += 1;
     }
 }
 
@@ -329,6 +309,7 @@ fn mend(
 }
 
 // An arena whose shape is good: ReportFull is known before the first change.
+#[tactic(auto, unfolding(model::specs::Salvage::go_over_of, model::specs::Salvage::is_report_full))]
 fn go_over(
     head: Head,
     table: &mut [u32],
@@ -340,21 +321,16 @@ fn go_over(
     ensures { (result, (table.new, (health.new, (report.new, unconfirmed.new))))
         ≡ go_over_of head table.old health.old report.old unconfirmed.old }
 {
-    let counted = count_all(head, table, health);
-    let changes = counted.changes;
-    let left = counted.left;
-    if report.len() / 3 < changes {
-        return conclude(head, SalvageAnswer::ReportFull);
-    }
-    if unconfirmed.len() < left {
-        return conclude(head, SalvageAnswer::ReportFull);
+    let Tally { changes, left } = count_all(head, table, health);
+    if report.len() / 3 < changes || unconfirmed.len() < left {
+        return conclude(head, Err(SalvageRefusal::ReportFull));
     }
     mend(head, changes, left, table, health, report, unconfirmed);
-    conclude(head, SalvageAnswer::Done(changes, left))
+    conclude(head, Ok((changes, left)))
 }
 
 // The result, with the head as it was given.
-fn conclude(head: Head, answer: SalvageAnswer) -> SalvageReply
+fn conclude(head: Head, answer: Result<(usize, usize), SalvageRefusal>) -> SalvageReply
     ensures { result ≡ concluded head answer }
 {
     SalvageReply { head, answer }
@@ -365,6 +341,7 @@ fn conclude(head: Head, answer: SalvageAnswer) -> SalvageReply
 // byte changed, rising, the list the cells left held; words behind the entries of both stay as they were. A head or a
 // length that keeps no rule of the arena is BadShape; where the report or the list has no room for all its entries it
 // is ReportFull. Either changes no lent word.
+#[tactic(auto, unfolding(model::specs::Salvage::salvage_of, model::specs::Checks::prepare_rules))]
 pub fn salvage(
     head: Head,
     table: &mut [u32],
@@ -375,9 +352,8 @@ pub fn salvage(
     ensures { (result, (table.new, (health.new, (report.new, unconfirmed.new))))
         ≡ salvage_of head table.old health.old report.old unconfirmed.old }
 {
-    let check = arena::arena_fault(head, table, health);
-    match check {
-        Check::Fault(_) => conclude(head, SalvageAnswer::BadShape),
-        Check::Fine => go_over(head, table, health, report, unconfirmed),
+    match arena::arena_fault(head, table, health) {
+        Err(_) => conclude(head, Err(SalvageRefusal::BadShape)),
+        Ok(()) => go_over(head, table, health, report, unconfirmed),
     }
 }

@@ -1,5 +1,5 @@
 -- The premises can be met: a salvage that is done, one that is refused, one that leaves two cells with one owner; and a history with a salvage.
-use Rattle.std.specs.Prelude.{ℕ, zero, suc, ◌+◌, ◌≡◌, refl, List, [], ◌∷◌, ◌++◌, false, get_or, take, replicate}
+use Rattle.std.specs.Prelude.{ℕ, zero, suc, ◌+◌, ◌≡◌, refl, List, [], ◌∷◌, ◌++◌, false, get_or, take, replicate, Ok}
 use Rattle.std.proofs.Common.{sym, subst, arith}
 use Rattle.model.specs.Log.{Actor, Event, by_caller, attempt_begun, took, released}
 use Rattle.model.specs.Arena.{head_of, lease_of, hold_of, bit_at, owner_at, set_cell, is_free, is_held, state_of, state_at, is_live, head_fits, shape_fits, health_fits}
@@ -11,7 +11,6 @@ use Rattle.model.specs.Salvage.{Salvage, kept_of, mended_cell, mended_table, men
 use Rattle.types.specs.declared.Answer.TheVariants as answer
 use Rattle.types.specs.declared.Head.{Head}
 use Rattle.types.specs.declared.Refusal.TheVariants.{NotHeld}
-use Rattle.types.specs.declared.SalvageAnswer.TheVariants.{Done, ReportFull}
 use Rattle.history.specs.World.{World, world_of, cells, Live, Free, Apart, Sound, now, Lawful, Spent, bits, number_of_lem, takes, releases}
 use Rattle.history.specs.Items.{drop_lease, try_acquire, perform, Item, call, preparation, salvage, salvage_over, says, saying, Entry, entry_of, Course, course_of, cold, history_of, preparing, salvaging, next_item, run}
 use Rattle.history.specs.Statements.{answers, leaves, rescued, Begins, NoStart}
@@ -49,7 +48,7 @@ is_mended = mended paper found sick (replicate 14 77) (replicate 3 77) 4 2 figur
 
 -- again, with no report and a list of two words
 pub is_same : salvage_of paper (table_in first_time) (health_in first_time) [] (replicate 2 0)
-    ≡ (concluded paper (Done 0 2), (table_in first_time, (health_in first_time, ([], over_of (take 2 (list_in first_time)) (replicate 2 0)))))
+    ≡ (concluded paper (Ok (0, 2)), (table_in first_time, (health_in first_time, ([], over_of (take 2 (list_in first_time)) (replicate 2 0)))))
 is_same = twice paper found sick (replicate 14 77) (replicate 3 77) 4 2 figures.is_done [] (replicate 2 0) (omega arith)
 
 -- its two owners differ: the arena is sound
@@ -154,7 +153,7 @@ valve_released =
     0 1 3 by_caller (attempt_begun ∷ released by_caller 0 1 ∷ attempt_begun ∷ []) [] (subst (λ (w : World). Live w (hold_of 0 1)) (sym story.is_rescued) story.lives_after) valve_is
 
 -- `live_over_salvage`: a salvage with the head in force, over the arena's own runs, keeps the lease of cell 2
-pub lives_then : ((salvaging (head_of 1 3 4 6) went_on.world.table went_on.world.health [] (77 ∷ [])).0 ≡ Done 0 1)
+pub lives_then : ((salvaging (head_of 1 3 4 6) went_on.world.table went_on.world.health [] (77 ∷ [])).0 ≡ Ok (0, 1))
     × Live went_on.world (hold_of 2 3)
 unfolding salvaging bit_at owner_at is_free is_held state_of state_at is_live head_fits shape_fits health_fits first prepare_rules kept_of mended_cell mended_table mended_byte mended_health change_of changes_from changes_of held_from left_held over_of is_report_full mend_of go_over_of salvage_of
 lives_then = (refl, refl)
@@ -183,7 +182,7 @@ still_lost (suc (suc zero)) v = differ v
 still_lost (suc (suc (suc c))) v = omega (arith, (lives went_on.world (hold_of (suc (suc (suc c))) 2) v).in_range)
 
 -- the second dip's salvage is done too, and no lease of serial 2 stands in what that dip left
-pub second_done : (salvaging (head_of 1 3 5 6) went_on.world.table (9 ∷ []) (replicate 3 77) (77 ∷ [])).0 ≡ Done 1 1
+pub second_done : (salvaging (head_of 1 3 5 6) went_on.world.table (9 ∷ []) (replicate 3 77) (77 ∷ [])).0 ≡ Ok (1, 1)
 unfolding salvaging bit_at owner_at is_free is_held state_of state_at head_fits shape_fits health_fits first prepare_rules kept_of mended_cell mended_table mended_byte mended_health change_of changes_from changes_of held_from left_held over_of is_report_full mend_of go_over_of salvage_of
 second_done = refl
 

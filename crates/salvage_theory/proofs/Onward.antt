@@ -1,14 +1,14 @@
 -- Histories that go on from a salvage: where they begin, what is counted, and who is live or dead.
-use Rattle.std.specs.Prelude.{ℕ, ◌<◌, ◌≡◌, refl, List, [], ◌∷◌, true, length}
+use Rattle.std.specs.Prelude.{ℕ, ◌<◌, ◌≡◌, refl, List, [], ◌∷◌, true, length, Ok, Err}
 use Rattle.std.proofs.Math.Path.{sym, ap}
 use Rattle.std.proofs.Common.{◌∙◌, subst, inl, inr, arith}
+use Rattle.types.specs.Checks.{SalvageAnswer}
+use Rattle.types.specs.declared.SalvageRefusal.TheVariants.{BadShape, ReportFull}
 use Rattle.model.specs.Arena.{cells_of, hold_of, bit_at, owner_at, state_at, is_live}
 use Rattle.model.specs.Log.{Event}
 use Rattle.model.specs.Salvage.{Salvage, mended_table, mend_of, salvage_of}
 use Rattle.types.specs.declared.Head.{Head}
 use Rattle.types.specs.declared.Hold.{Hold}
-use Rattle.types.specs.declared.SalvageAnswer.{SalvageAnswer}
-use Rattle.types.specs.declared.SalvageAnswer.TheVariants.{Done, BadShape, ReportFull}
 use Rattle.types.specs.declared.State.TheVariants as state
 use Rattle.laws.specs.Shape.{Shaped}
 use Rattle.history.specs.World.{World, world_of, cells, Live, Spent, now, Lawful, bits}
@@ -44,20 +44,20 @@ head_given h t g report list = go (came h t g report list)
 
 -- the item is a start, and the stretch begins in the salvaged world
 starts : {w : World} {i : Item} {h : Head} {t g report list : List ℕ} {e n : ℕ} → Salvages w i h t g report list
-    → answer_in (salvage_of h t g report list) ≡ Done e n → Begins w i
+    → answer_in (salvage_of h t g report list) ≡ Ok (e, n) → Begins w i
 unfolding salvaging
 starts {e = e} {n = n} (own h report list) d = (e, n, d)
 starts {e = e} {n = n} (other h t g report list) d = (e, n, d)
 
 -- and a start only where the salvage is done
 begins_done : {w : World} {i : Item} {h : Head} {t g report list : List ℕ} → Salvages w i h t g report list → Begins w i
-    → (e n : ℕ) × (answer_in (salvage_of h t g report list) ≡ Done e n)
+    → (e n : ℕ) × (answer_in (salvage_of h t g report list) ≡ Ok (e, n))
 unfolding salvaging
 begins_done (own h report list) b = b
 begins_done (other h t g report list) b = b
 
 starts_in : (k : Course) {i : Item} {h : Head} {t g report list : List ℕ} {e n : ℕ} → Salvages k.world i h t g report list
-    → answer_in (salvage_of h t g report list) ≡ Done e n → next_item k i ≡ cold (rescued h t g report list)
+    → answer_in (salvage_of h t g report list) ≡ Ok (e, n) → next_item k i ≡ cold (rescued h t g report list)
 unfolding next_item salvaging
 starts_in k (own h report list) d =
     let m = salvage_of h k.world.table k.world.health report list in
@@ -69,7 +69,7 @@ starts_in k (other h t g report list) d =
     ∙ ap (λ (x : Head). cold (world_of x (table_in m) (health_in m))) (head_given h t g report list)
 
 module _ (k : Course) (i : Item) (h : Head) (t g report list : List ℕ) (e n : ℕ) (items : List Item)
-    (x : Salvages k.world i h t g report list) (d : answer_in (salvage_of h t g report list) ≡ Done e n) (on : NoStart (next_item k i) items) where
+    (x : Salvages k.world i h t g report list) (d : answer_in (salvage_of h t g report list) ≡ Ok (e, n)) (on : NoStart (next_item k i) items) where
   abbrev end : Course
   end = run k (i ∷ items)
 
@@ -143,7 +143,7 @@ live_over_salvage k report list l b =
     let w = k.world in
     let h = w.head in
     let m = salvage_of h w.table w.health report list in
-    let done_so : answer_in m ≡ Done b.0 b.1 = b.2 in
+    let done_so : answer_in m ≡ Ok (b.0, b.1) = b.2 in
     let s = was_done h w.table w.health report list b.0 b.1 done_so in
     let q = ap (λ (c : Course). c.world) (starts_in k (own h report list) done_so) in (
       λ v.
@@ -181,12 +181,12 @@ module _ (k : Course) (x : Stretch k) (s : ℕ) (p : Spent k.world s) where
   unfolding mend_of
   dead_rescued i h t g report list x u = go (came h t g report list)
     where
-      undone : (a : SalvageAnswer) → answer_in (salvage_of h t g report list) ≡ a → ((e n : ℕ) → a ≡ Done e n → ⊥) → Spent (next_item k i).world s
+      undone : (a : SalvageAnswer) → answer_in (salvage_of h t g report list) ≡ a → ((e n : ℕ) → a ≡ Ok (e, n) → ⊥) → Spent (next_item k i).world s
       undone a q n = dead_refused x (λ b. let d = begins_done x b in n d.0 d.1 (sym q ∙ d.2))
 
       go : Came h t g report list → Spent (next_item k i).world s
-      go (bad f q) = undone BadShape (ap answer_in q) (λ e n z. differ cc)
-      go (full f j q) = undone ReportFull (ap answer_in q) (λ e n z. differ cc)
+      go (bad f q) = undone (Err BadShape) (ap answer_in q) (λ e n z. differ cc)
+      go (full f j q) = undone (Err ReportFull) (ap answer_in q) (λ e n z. differ cc)
       go (done f j q) =
           let d = ap answer_in q in
           let o = was_done h t g report list _ _ d in

@@ -1,16 +1,16 @@
 -- The statements of `Statements`, each proved; what they rest on is in the files behind.
-use Rattle.std.specs.Prelude.{ℕ, ◌+◌, ◌*◌, ◌/◌, ◌≤◌, ◌<◌, ◌≡◌, refl, List, [], ◌∷◌, ◌++◌, Bool, true, false, ◌||◌, ◌≢◌, ltb, length, get_or, take, drop}
+use Rattle.std.specs.Prelude.{ℕ, ◌+◌, ◌*◌, ◌/◌, ◌≤◌, ◌<◌, ◌≡◌, refl, List, [], ◌∷◌, ◌++◌, Bool, true, false, ◌||◌, ◌≢◌, ltb, length, get_or, take, drop, Ok, Err}
 use Rattle.std.proofs.Common.{sym, ap, ◌∙◌, subst, inl, inr, arith, length-append, length-drop, take_at, drop_at, get_or-append-add, ltb-true, lt-ltb}
 use Rattle.std.proofs.Math.Decide.{dec_lt}
 use Rattle.std.proofs.Math.ListN.{get_or-append}
+use Rattle.types.specs.Checks.{SalvageAnswer}
+use Rattle.types.specs.declared.SalvageRefusal.TheVariants.{BadShape, ReportFull}
 use Rattle.choice.specs.Pick.{both}
 use Rattle.model.specs.Arena.{cells_of, lease_of, hold_of, bit_at, owner_at, state_at, is_live, shape_fits, health_fits}
 use Rattle.model.specs.Log.{Event, by_caller, released, Made}
 use Rattle.model.specs.Salvage.{Salvage, mended_table, mended_health, changes_of, entries_of, left_held, over_of, is_report_full, unsalvaged, concluded, mend_of, salvage_of}
 use Rattle.types.specs.declared.Head.{Head}
 use Rattle.types.specs.declared.Hold.{Hold}
-use Rattle.types.specs.declared.SalvageAnswer.{SalvageAnswer}
-use Rattle.types.specs.declared.SalvageAnswer.TheVariants.{Done, BadShape, ReportFull}
 use Rattle.laws.specs.Shape.{Shaped, shaped}
 use Rattle.laws.specs.Words.{state_freed}
 use Rattle.history.specs.World.{World, world_of, cells, Live, Free, Apart, Sound, after_event, now}
@@ -32,7 +32,7 @@ use Rattle.salvage_theory.proofs.Onward as onward
 
 -- what is not done changes nothing
 unchanged : (h : Head) (t g report list : List ℕ) (a : SalvageAnswer) → answer_in (salvage_of h t g report list) ≡ a
-    → ((e n : ℕ) → a ≡ Done e n → ⊥) → salvage_of h t g report list ≡ unsalvaged h t g report list a
+    → ((e n : ℕ) → a ≡ Ok (e, n) → ⊥) → salvage_of h t g report list ≡ unsalvaged h t g report list a
 unchanged h t g report list a d n = go (came h t g report list)
   where
     go : Came h t g report list → salvage_of h t g report list ≡ unsalvaged h t g report list a
@@ -42,15 +42,15 @@ unchanged h t g report list a d n = go (came h t g report list)
 
 pub bad_shape_exactly : BadShapeExactly
 bad_shape_exactly h t g report list =
-    ((there (came h t g report list), back (came h t g report list)), λ a. unchanged h t g report list BadShape a (λ e n q. differ (let z : BadShape ≡ Done e n = q in cc)))
+    ((there (came h t g report list), back (came h t g report list)), λ a. unchanged h t g report list (Err BadShape) a (λ e n q. differ (let z : (Err BadShape) ≡ Ok (e, n) = q in cc)))
   where
-    there : Came h t g report list → answer_in (salvage_of h t g report list) ≡ BadShape → fits h t g ≡ false
+    there : Came h t g report list → answer_in (salvage_of h t g report list) ≡ Err BadShape → fits h t g ≡ false
     there (bad f p) a = f
-    there (full f k p) a = let q : ReportFull ≡ BadShape = sym (ap answer_in p) ∙ a in cc
+    there (full f k p) a = let q : (Err ReportFull) ≡ (Err BadShape) = sym (ap answer_in p) ∙ a in cc
     there (done f k p) a =
-        let q : Done (entries_of h t g) (length (left_held h.next (cells_of h) t)) ≡ BadShape = sym (ap answer_in p) ∙ a in cc
+        let q : Ok ((entries_of h t g), (length (left_held h.next (cells_of h) t))) ≡ (Err BadShape) = sym (ap answer_in p) ∙ a in cc
 
-    back : Came h t g report list → fits h t g ≡ false → answer_in (salvage_of h t g report list) ≡ BadShape
+    back : Came h t g report list → fits h t g ≡ false → answer_in (salvage_of h t g report list) ≡ Err BadShape
     back (bad f p) a = ap answer_in p
     back (full f k p) a = let z : true ≡ false = sym f ∙ a in cc
     back (done f k p) a = let z : true ≡ false = sym f ∙ a in cc
@@ -77,17 +77,17 @@ is_full h t g report list (inr l) = go (ltb (length report / 3) (entries_of h t 
 
 pub report_full_exactly : ReportFullExactly
 report_full_exactly h t g report list =
-    ((there (came h t g report list), back (came h t g report list)), λ a. unchanged h t g report list ReportFull a (λ e n q. differ (let z : ReportFull ≡ Done e n = q in cc)))
+    ((there (came h t g report list), back (came h t g report list)), λ a. unchanged h t g report list (Err ReportFull) a (λ e n q. differ (let z : (Err ReportFull) ≡ Ok (e, n) = q in cc)))
   where
-    there : Came h t g report list → answer_in (salvage_of h t g report list) ≡ ReportFull → (fits h t g ≡ true) × NoRoom h t g report list
-    there (bad f p) a = let q : BadShape ≡ ReportFull = sym (ap answer_in p) ∙ a in let z : ◌≡◌ {A = ℕ} 0 1 = cc in absurd (omega arith)
+    there : Came h t g report list → answer_in (salvage_of h t g report list) ≡ Err ReportFull → (fits h t g ≡ true) × NoRoom h t g report list
+    there (bad f p) a = let q : (Err BadShape) ≡ (Err ReportFull) = sym (ap answer_in p) ∙ a in let z : ◌≡◌ {A = ℕ} 0 1 = cc in absurd (omega arith)
     there (full f k p) a = (f, no_room h t g report list k)
     there (done f k p) a =
-        let q : Done (entries_of h t g) (length (left_held h.next (cells_of h) t)) ≡ ReportFull = sym (ap answer_in p) ∙ a in
+        let q : Ok ((entries_of h t g), (length (left_held h.next (cells_of h) t))) ≡ (Err ReportFull) = sym (ap answer_in p) ∙ a in
         let z : ◌≡◌ {A = ℕ} 0 1 = cc in
         absurd (omega arith)
 
-    back : Came h t g report list → (fits h t g ≡ true) × NoRoom h t g report list → answer_in (salvage_of h t g report list) ≡ ReportFull
+    back : Came h t g report list → (fits h t g ≡ true) × NoRoom h t g report list → answer_in (salvage_of h t g report list) ≡ Err ReportFull
     back (bad f p) a = let z : false ≡ true = sym f ∙ a.0 in cc
     back (full f k p) a = ap answer_in p
     back (done f k p) a = let z : false ≡ true = sym k ∙ is_full h t g report list a.1 in cc
@@ -241,7 +241,7 @@ changes_again h t g =
 -- nothing to report, and room for the cells
 second : (h : Head) (u v report list : List ℕ) (n : ℕ) → fits h u v ≡ true → mended_table h.next u ≡ u → mended_health v ≡ v
     → changes_of h u v ≡ [] → n ≡ length (left_held h.next (cells_of h) u) → n ≤ length list
-    → salvage_of h u v report list ≡ (concluded h (Done 0 n), (u, (v, (report, over_of (left_held h.next (cells_of h) u) list))))
+    → salvage_of h u v report list ≡ (concluded h (Ok (0, n)), (u, (v, (report, over_of (left_held h.next (cells_of h) u) list))))
 unfolding mend_of over_of
 second h u v report list n f p q r k l = go (came h u v report list)
   where
@@ -249,7 +249,7 @@ second h u v report list n f p q r k l = go (came h u v report list)
     roomy (inl m) = omega (arith, words_are h u v report list, ap (λ (y : List ℕ). length y) r)
     roomy (inr m) = omega arith
 
-    go : Came h u v report list → salvage_of h u v report list ≡ (concluded h (Done 0 n), (u, (v, (report, over_of (left_held h.next (cells_of h) u) list))))
+    go : Came h u v report list → salvage_of h u v report list ≡ (concluded h (Ok (0, n)), (u, (v, (report, over_of (left_held h.next (cells_of h) u) list))))
     go (bad e x) = let z : false ≡ true = sym e ∙ f in cc
     go (full e i x) = absurd (roomy (no_room h u v report list i))
     go (done e i x) = x ∙ rw (p, q, r, k)

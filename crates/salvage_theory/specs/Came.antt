@@ -1,15 +1,15 @@
 -- What a salvage that is done has given.
-use Rattle.std.specs.Prelude.{ℕ, ◌+◌, ◌*◌, ◌/◌, ◌≤◌, List, ◌++◌, true, ltb}
+use Rattle.std.specs.Prelude.{ℕ, ◌+◌, ◌*◌, ◌/◌, ◌≤◌, List, ◌++◌, true, ltb, Ok, Err}
 use Rattle.std.proofs.Math.Path.{◌≡◌, sym, ap}
 use Rattle.std.proofs.Common.{◌∙◌}
 use native.Mathlib.Omega.{arith}
 use Rattle.std.proofs.Math.ListN.{length}
+use Rattle.types.specs.declared.SalvageRefusal.TheVariants.{BadShape, ReportFull}
 use borrow.Author.Tests.{ltb-false}
 use Rattle.choice.specs.Pick.{both, neither}
 use Rattle.model.specs.Arena.{cells_of, shape_fits, health_fits}
 use Rattle.model.specs.Salvage.{Salvage, mended_table, mended_health, changes_from, changes_of, entries_of, left_held, over_of, is_report_full, mend_of, salvage_of}
 use Rattle.types.specs.declared.Head.{Head}
-use Rattle.types.specs.declared.SalvageAnswer.TheVariants.{Done, BadShape, ReportFull}
 use Rattle.laws.specs.Shape.{Shaped, shaped, healthy}
 use Rattle.laws.specs.Salvage.{differing, length_mended, entries_are}
 use Rattle.history.specs.Salvages.{Came, bad, full, done, came}
@@ -41,17 +41,18 @@ module _ (h : Head) (t g report list : List ℕ) where
     pub report_is : report_in made ≡ over_of (changes_of h t g) report
     pub list_is : list_in made ≡ over_of (left_held h.next (cells_of h) t) list
 
-  pub was_done : (e n : ℕ) → answer_in made ≡ Done e n → WasDone e n
+  pub was_done : (e n : ℕ) → answer_in made ≡ Ok (e, n) → WasDone e n
   unfolding is_report_full mend_of
   was_done e n d = go (came h t g report list)
     where
       go : Came h t g report list → WasDone e n
-      go (bad f p) = let q : BadShape ≡ Done e n = sym (ap answer_in p) ∙ d in let z : ◌≡◌ {A = ℕ} 0 1 = cc in absurd (omega arith)
-      go (full f k p) = let q : ReportFull ≡ Done e n = sym (ap answer_in p) ∙ d in let z : ◌≡◌ {A = ℕ} 0 1 = cc in absurd (omega arith)
+      go (bad f p) = let q : (Err BadShape) ≡ Ok (e, n) = sym (ap answer_in p) ∙ d in let z : ◌≡◌ {A = ℕ} 0 1 = cc in absurd (omega arith)
+      go (full f k p) = let q : (Err ReportFull) ≡ Ok (e, n) = sym (ap answer_in p) ∙ d in let z : ◌≡◌ {A = ℕ} 0 1 = cc in absurd (omega arith)
       go (done f k p) =
-          let q : Done (entries_of h t g) (length (left_held h.next (cells_of h) t)) ≡ Done e n = sym (ap answer_in p) ∙ d in
-          let x : entries_of h t g ≡ e = cc in
-          let y : length (left_held h.next (cells_of h) t) ≡ n = cc in
+          let q : Ok (entries_of h t g, length (left_held h.next (cells_of h) t)) ≡ Ok (e, n) = sym (ap answer_in p) ∙ d in
+          let z : ◌≡◌ {A = ℕ × ℕ} (entries_of h t g, length (left_held h.next (cells_of h) t)) (e, n) = cc in
+          let x : entries_of h t g ≡ e = ap (λ (z : ℕ × ℕ). z.0) z in
+          let y : length (left_held h.next (cells_of h) t) ≡ n = ap (λ (z : ℕ × ℕ). z.1) z in
           let s = both (shape_fits h (length t)) (health_fits h (length g)) f in
           let r = neither (ltb (length report / 3) (entries_of h t g)) (ltb (length list) (length (left_held h.next (cells_of h) t))) k in
           record {

@@ -1,6 +1,7 @@
 -- The premises can be met: a salvage that is done, one that is refused, one that leaves two cells with one owner; and a history with a salvage.
-use Rattle.std.specs.Prelude.{ℕ, zero, suc, ◌+◌, ◌≡◌, refl, List, [], ◌∷◌, ◌++◌, false, get_or, take, replicate}
+use Rattle.std.specs.Prelude.{ℕ, zero, suc, ◌+◌, ◌≡◌, refl, List, [], ◌∷◌, ◌++◌, false, get_or, take, replicate, Ok, Err}
 use Rattle.std.proofs.Common.{sym, subst, arith}
+use Rattle.types.specs.declared.SalvageRefusal.TheVariants.{ReportFull}
 use Rattle.model.specs.Log.{Actor, Event, by_caller, attempt_begun, took, released}
 use Rattle.model.specs.Arena.{head_of, lease_of, hold_of, bit_at, owner_at, set_cell, is_free, is_held, state_of, state_at, is_live, head_fits, shape_fits, health_fits}
 use Rattle.model.specs.Refusals.{first}
@@ -11,7 +12,6 @@ use Rattle.model.specs.Salvage.{Salvage, kept_of, mended_cell, mended_table, men
 use Rattle.types.specs.declared.Answer.TheVariants as answer
 use Rattle.types.specs.declared.Head.{Head}
 use Rattle.types.specs.declared.Refusal.TheVariants.{NotHeld}
-use Rattle.types.specs.declared.SalvageAnswer.TheVariants.{Done, ReportFull}
 use Rattle.history.specs.World.{World, world_of, cells, Live, Free, Apart, Sound, now, Lawful, Spent, bits, number_of_lem, takes, releases}
 use Rattle.history.specs.Items.{drop_lease, try_acquire, perform, Item, call, preparation, salvage, salvage_over, says, saying, Entry, entry_of, Course, course_of, cold, history_of, preparing, salvaging, next_item, run}
 use Rattle.history.specs.Statements.{answers, leaves, rescued, Begins, NoStart}
@@ -48,14 +48,14 @@ left = world_of paper (table_in by_one_owner) (health_in by_one_owner)
 
 -- what comes out, computed
 pub record Figures : Type 0 where
-  pub is_done : answer_in first_time ≡ Done 4 2
+  pub is_done : answer_in first_time ≡ Ok (4, 2)
   pub is_reported : report_in first_time ≡ 3 ∷ 2 ∷ 0 ∷ 5 ∷ 4 ∷ 0 ∷ 8 ∷ 1 ∷ 0 ∷ 9 ∷ 7 ∷ 1 ∷ 77 ∷ 77 ∷ []
   pub is_listed : list_in first_time ≡ 0 ∷ 2 ∷ 77 ∷ []
   pub first_owner : owner_at (table_in first_time) (get_or (list_in first_time) 0 0) ≡ 5
   pub second_owner : owner_at (table_in first_time) (get_or (list_in first_time) 1 0) ≡ 8
   -- a report of eleven words has room for three entries only
-  pub is_full : answer_in (salvage_of paper found sick (replicate 11 77) (replicate 3 77)) ≡ ReportFull
-  pub doubled_done : answer_in by_one_owner ≡ Done 0 2
+  pub is_full : answer_in (salvage_of paper found sick (replicate 11 77) (replicate 3 77)) ≡ Err ReportFull
+  pub doubled_done : answer_in by_one_owner ≡ Ok (0, 2)
   pub one_owner : owner_at (table_in by_one_owner) (get_or (list_in by_one_owner) 0 0) ≡ owner_at (table_in by_one_owner) (get_or (list_in by_one_owner) 1 0)
   pub left_fits : ShapeFits left
   pub first_live : Live left (hold_of 0 5)
@@ -106,7 +106,7 @@ went_on = course_of salvaged_world entries_then (world_of (head_of 1 3 4 6) (0 �
 pub record Story : Type 0 where
   -- before the dip both leases are live
   pub lives_before : Live before_dip.world (hold_of 0 1) × Live before_dip.world (hold_of 2 2)
-  pub is_done : answer_in went_over ≡ Done 4 1
+  pub is_done : answer_in went_over ≡ Ok (4, 1)
   pub is_listed : list_in went_over ≡ 0 ∷ 77 ∷ []
   pub begins_anew : next_item before_dip rescue ≡ cold salvaged_world
   pub is_rescued : rescued on_paper after_dip (7 ∷ []) (replicate 12 77) (replicate 2 77) ≡ salvaged_world

@@ -1,12 +1,12 @@
 -- Document 02, L6, as statements about a salvage: when it refuses, what its report and its list hold, what it leaves; and about histories that
 -- go on from one.
-use Rattle.std.specs.Prelude.{ℕ, ◌+◌, ◌*◌, ◌≤◌, ◌<◌, ◌≡◌, List, [], ◌∷◌, ◌++◌, Bool, true, false, ◌&&◌, ◌↔◌, ◌⊎◌, ◌≢◌, length, get_or, take, drop, set}
+use Rattle.std.specs.Prelude.{ℕ, ◌+◌, ◌*◌, ◌≤◌, ◌<◌, ◌≡◌, List, [], ◌∷◌, ◌++◌, Bool, true, false, ◌&&◌, ◌↔◌, ◌⊎◌, ◌≢◌, length, get_or, take, drop, set, Ok, Err}
+use Rattle.types.specs.Checks.{SalvageAnswer}
+use Rattle.types.specs.declared.SalvageRefusal.TheVariants.{BadShape, ReportFull}
 use Rattle.model.specs.Arena.{cells_of, lease_of, hold_of, bit_at, owner_at, waiters_at, state_at, shape_fits, health_fits}
 use Rattle.model.specs.Salvage.{Salvage, salvage_of, mended_table, mended_health, left_held, over_of, concluded, unsalvaged}
 use Rattle.types.specs.declared.Answer.TheVariants as answer
 use Rattle.types.specs.declared.Head.{Head}
-use Rattle.types.specs.declared.SalvageAnswer.{SalvageAnswer}
-use Rattle.types.specs.declared.SalvageAnswer.TheVariants.{Done, BadShape, ReportFull}
 use Rattle.types.specs.declared.State.TheVariants as state
 use Rattle.model.specs.Log.{Actor, Event, took, released}
 use Rattle.types.specs.declared.Hold.{Hold}
@@ -44,7 +44,7 @@ Always P = (h : Head) (t g report list : List ℕ) → P h t g report list
 -- a statement about every salvage that is done, with e entries and n cells left held
 abbrev pub WhenDone : (Head → List ℕ → List ℕ → List ℕ → List ℕ → (e n : ℕ) → Type 0) → Type 0
 WhenDone P =
-    (h : Head) (t g report list : List ℕ) (e n : ℕ) → answer_in (salvage_of h t g report list) ≡ Done e n → P h t g report list e n
+    (h : Head) (t g report list : List ℕ) (e n : ℕ) → answer_in (salvage_of h t g report list) ≡ Ok (e, n) → P h t g report list e n
 
 -- ---- refusals
 
@@ -52,8 +52,8 @@ WhenDone P =
 abbrev pub BadShapeExactly : Type 0
 BadShapeExactly =
     Always (λ h t g report list.
-    ((answer_in (salvage_of h t g report list) ≡ BadShape) ↔ (fits h t g ≡ false))
-    × (answer_in (salvage_of h t g report list) ≡ BadShape → salvage_of h t g report list ≡ unsalvaged h t g report list BadShape))
+    ((answer_in (salvage_of h t g report list) ≡ Err BadShape) ↔ (fits h t g ≡ false))
+    × (answer_in (salvage_of h t g report list) ≡ Err BadShape → salvage_of h t g report list ≡ unsalvaged h t g report list (Err BadShape)))
 
 -- "if the report or that list cannot hold all its entries": the report has not the words for them, or the list
 abbrev pub NoRoom : Head → List ℕ → List ℕ → List ℕ → List ℕ → Type 0
@@ -65,8 +65,8 @@ NoRoom h t g report list =
 abbrev pub ReportFullExactly : Type 0
 ReportFullExactly =
     Always (λ h t g report list.
-    ((answer_in (salvage_of h t g report list) ≡ ReportFull) ↔ ((fits h t g ≡ true) × NoRoom h t g report list))
-    × (answer_in (salvage_of h t g report list) ≡ ReportFull → salvage_of h t g report list ≡ unsalvaged h t g report list ReportFull))
+    ((answer_in (salvage_of h t g report list) ≡ Err ReportFull) ↔ ((fits h t g ≡ true) × NoRoom h t g report list))
+    × (answer_in (salvage_of h t g report list) ≡ Err ReportFull → salvage_of h t g report list ≡ unsalvaged h t g report list (Err ReportFull)))
 
 -- ---- the report
 
@@ -180,7 +180,7 @@ Twice =
     let m = salvage_of h t g report list in
     (report' list' : List ℕ) → n ≤ length list'
     → salvage_of h (table_in m) (health_in m) report' list'
-    ≡ (concluded h (Done 0 n), (table_in m, (health_in m, (report', over_of (take n (list_in m)) list')))))
+    ≡ (concluded h (Ok (0, n)), (table_in m, (health_in m, (report', over_of (take n (list_in m)) list')))))
 
 -- document 02, L8: "Salvage keeps the boot number of the head it was given.", done or refused
 abbrev pub KeepsBoot : Type 0
@@ -220,7 +220,7 @@ pub data Salvages (w : World) : Item → Head → List ℕ → List ℕ → List
 abbrev pub FromSalvage : (Head → List ℕ → List ℕ → List ℕ → List ℕ → (n : ℕ) → Course → Type 0) → Type 0
 FromSalvage P =
     (k : Course) (i : Item) (h : Head) (t g report list : List ℕ) (e n : ℕ) (items : List Item)
-    → Salvages k.world i h t g report list → answer_in (salvage_of h t g report list) ≡ Done e n → NoStart (next_item k i) items
+    → Salvages k.world i h t g report list → answer_in (salvage_of h t g report list) ≡ Ok (e, n) → NoStart (next_item k i) items
     → P h t g report list n (run k (i ∷ items))
 
 -- the course is that of the salvaged world: it begins there, every event since was legal in the state in which it happened, and the world now is

@@ -1,13 +1,10 @@
 -- Document 02, L2: "A setpoint is a pressure in bar as f32, a speed as a whole number, or a valve open or shut."
-use Rattle.std.specs.Prelude.{ℕ, ◌+◌, ◌*◌, ◌/◌, ◌%◌, List, [], ◌∷◌, Bool, true, false, ltb, eqb, get_or, Float, if◌then◌else◌}
+use Rattle.std.specs.Prelude.{ℕ, ◌+◌, ◌*◌, ◌/◌, ◌%◌, List, [], ◌∷◌, Bool, true, false, ltb, eqb, get_or, Float, Option, Some, None, Result, Ok, Err, if◌then◌else◌}
 use Rattle.std.specs.Float.{nan, inf, fin, binary32}
 use Rattle.std.specs.Float.Ieee.{to_bits, of_bits}
 use Rattle.setpoint.specs.declared.Setpoint.{Setpoint}
 use Rattle.setpoint.specs.declared.Setpoint.TheVariants.{Pressure, Speed, Valve}
-use Rattle.setpoint.specs.declared.Encoded.{Encoded}
-use Rattle.setpoint.specs.declared.Encoded.TheVariants.{Written, NotFinite}
-use Rattle.setpoint.specs.declared.Decoded.{Decoded}
-use Rattle.setpoint.specs.declared.Decoded.TheVariants.{Setting, Damaged}
+use Rattle.setpoint.specs.declared.NotFinite.{NotFinite}
 
 -- ---- writing
 
@@ -45,8 +42,8 @@ unfoldable pub body_of : Setpoint → List ℕ
 body_of s = bytes_of (kind_of s) (word_of s)
 
 -- what stands in five lent bytes afterwards; "refusals change nothing"
-unfoldable pub encode_of : Setpoint → List ℕ → Encoded × List ℕ
-encode_of s old = if has_body s then (Written, body_of s) else (NotFinite, old)
+unfoldable pub encode_of : Setpoint → List ℕ → Result Unit NotFinite × List ℕ
+encode_of s old = if has_body s then (Ok tt, body_of s) else (Err (record {}), old)
 
 -- ---- reading
 
@@ -55,16 +52,16 @@ abbrev pub finite_bits : ℕ → Bool
 finite_bits w = ltb (w % 2147483648) 2139095040
 
 -- what a kind and a word mean: "A .. body that fits no rule" is no setpoint
-unfoldable pub setting_of : ℕ → ℕ → Decoded
+unfoldable pub setting_of : ℕ → ℕ → Option Setpoint
 setting_of kind w =
-    if eqb kind 1 then (if finite_bits w then Setting (Pressure (of_bits binary32 w)) else Damaged)
-    else if eqb kind 2 then Setting (Speed w)
-    else if eqb kind 3 then (if eqb w 0 then Setting (Valve false) else if eqb w 1 then Setting (Valve true) else Damaged)
-    else Damaged
+    if eqb kind 1 then (if finite_bits w then Some (Pressure (of_bits binary32 w)) else None)
+    else if eqb kind 2 then Some (Speed w)
+    else if eqb kind 3 then (if eqb w 0 then Some (Valve false) else if eqb w 1 then Some (Valve true) else None)
+    else None
 
 -- four bytes, low byte first, as a word
 unfoldable pub join_of : ℕ → ℕ → ℕ → ℕ → ℕ
 join_of a b c d = a + b * 256 + c * 65536 + d * 16777216
 
-unfoldable pub decode_of : List ℕ → Decoded
+unfoldable pub decode_of : List ℕ → Option Setpoint
 decode_of l = setting_of (get_or l 0 0) (join_of (get_or l 1 0) (get_or l 2 0) (get_or l 3 0) (get_or l 4 0))

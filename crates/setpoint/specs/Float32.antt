@@ -1,30 +1,19 @@
 -- What binary32 gives the codec: which values are finite, by comparison and by pattern.
 use Rattle.std.specs.Prelude.{◌≡◌, refl, ℕ, zero, suc, ◌+◌, ◌/◌, ◌%◌, ◌≤◌, ◌<◌, Bool, true, false, not, cond, T, ltb, leb, eqb, Float}
 use Rattle.std.proofs.Common.{sym, ap, ◌∙◌, subst, arith, ltb-true, ltb-false, eq-eqb, ne_eqb}
-use Rattle.std.specs.Float.{nan, inf, fin, binary32}
-use Rattle.std.specs.Float.Ieee.{is_nan, nan_bits, odd, of_fields, of_bits, to_bits, fits, lt, neg}
-use Rattle.std.specs.Float.Ieee.Bits.{of_bits-to_bits, to_bits-of_bits, to_bits-lt, nan_bits_is}
+use Rattle.std.specs.Float.{nan, inf, fin, binary32, float_is_finite}
+use Rattle.std.specs.Float.Ieee.{is_nan, nan_bits, odd, of_fields, of_bits, to_bits, fits}
+use Rattle.std.specs.Float.Ieee.Bits.{of_bits-to_bits, to_bits-of_bits, nan_bits_is}
 use Rattle.setpoint.specs.Codec.{is_finite, finite_bits, has_body}
 use Rattle.setpoint.specs.declared.Setpoint.{Setpoint}
 use Rattle.setpoint.specs.declared.Setpoint.TheVariants.{Pressure}
 
--- the infinity's pattern
-abbrev pub top : Float
-top = of_bits binary32 2139095040
-
--- the two comparisons of the code
-pub finite_above : (x : Float) → lt x top ≡ true → is_finite x ≡ lt (neg top) x
-unfolding is_finite lt neg of_bits
-finite_above nan e = refl
-finite_above (inf true) e = refl
-finite_above (inf false) e = let z : false ≡ true = e in cc
-finite_above (fin s m p) e = refl
-
-pub finite_below : (x : Float) → lt x top ≡ false → is_finite x ≡ false
-unfolding is_finite lt neg of_bits
-finite_below nan e = refl
-finite_below (inf s) e = refl
-finite_below (fin s m p) e = let z : true ≡ false = e in cc
+-- the library's test, which the code takes
+pub is_finite_lem : (x : Float) → float_is_finite x ≡ is_finite x
+unfolding is_finite float_is_finite
+is_finite_lem nan = refl
+is_finite_lem (inf s) = refl
+is_finite_lem (fin s m e) = refl
 
 no_nan : (x : Float) → is_finite x ≡ true → T (not (is_nan x))
 unfolding is_finite is_nan
@@ -74,9 +63,6 @@ pub from_bits : (w : ℕ) → finite_bits w ≡ true → T (not (nan_bits binary
 from_bits w e = subst (λ (b : Bool). T (not b)) (sym (nan_bits_is binary32 w)) (pattern_no_nan w e)
 
 -- ---- there and back
-
-pub bits_small : (x : Float) → T (fits binary32 x) → to_bits binary32 x < 4294967296
-bits_small x f = to_bits-lt binary32 x f
 
 pub value_back : (x : Float) → T (fits binary32 x) → of_bits binary32 (to_bits binary32 x) ≡ x
 value_back x f = of_bits-to_bits binary32 x f

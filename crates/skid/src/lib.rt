@@ -39,6 +39,14 @@ fn head_of(headers: u32, buckets: u32, next: u32, boot: u32) -> Head
     }
 }
 
+// The lease that a call is given.
+#[inline(always)]
+fn lease_of(cell: u32, serial: u32, boot: u32) -> Lease
+    ensures { result ≡ lease_of cell serial boot }
+{
+    Lease { cell, serial, boot }
+}
+
 // The number of this interface, which is a part of the name: a program asks for the name that it was compiled with, and
 // with another interface it does not link. The number rises with every change of a call, of an answer or of a layout.
 #[unsafe(no_mangle)]
@@ -140,11 +148,7 @@ pub extern "C" fn skid_drop_lease(
         (lease_of cell serial lease_boot)).seen }
 {
     let head = head_of(headers, buckets, next, boot);
-    let lease = Lease {
-        cell,
-        serial,
-        boot: lease_boot,
-    };
+    let lease = lease_of(cell, serial, lease_boot);
     let r = lease::drop_lease(head, table, lease);
     *reply = skid_words::reply_words(r);
 }
@@ -167,11 +171,7 @@ pub extern "C" fn skid_read_permission(
         (lease_of cell serial lease_boot)).seen }
 {
     let head = head_of(headers, buckets, next, boot);
-    let lease = Lease {
-        cell,
-        serial,
-        boot: lease_boot,
-    };
+    let lease = lease_of(cell, serial, lease_boot);
     let r = lease::read_permission(head, table, lease);
     *reply = skid_words::reply_words(r);
 }
@@ -194,11 +194,7 @@ pub extern "C" fn skid_competing_acquire_is_excluded(
         (lease_of cell serial lease_boot)).seen }
 {
     let head = head_of(headers, buckets, next, boot);
-    let lease = Lease {
-        cell,
-        serial,
-        boot: lease_boot,
-    };
+    let lease = lease_of(cell, serial, lease_boot);
     let r = lease::competing_acquire_is_excluded(head, table, lease);
     *reply = skid_words::reply_words(r);
 }
@@ -221,11 +217,7 @@ pub extern "C" fn skid_release_then_handoff(
         (lease_of cell serial lease_boot)).seen }
 {
     let head = head_of(headers, buckets, next, boot);
-    let lease = Lease {
-        cell,
-        serial,
-        boot: lease_boot,
-    };
+    let lease = lease_of(cell, serial, lease_boot);
     let r = lease::release_then_handoff(head, table, lease);
     *reply = skid_words::reply_words(r);
 }
@@ -249,11 +241,7 @@ pub extern "C" fn skid_foreign_release_between_attempts(
         held.now (lease_of cell serial lease_boot)).seen }
 {
     let head = head_of(headers, buckets, next, boot);
-    let lease = Lease {
-        cell,
-        serial,
-        boot: lease_boot,
-    };
+    let lease = lease_of(cell, serial, lease_boot);
     let r = lease::foreign_release_between_attempts(head, table, held, lease);
     *reply = skid_words::reply_words(r);
 }
@@ -299,11 +287,7 @@ pub extern "C" fn skid_drop_preserving_borrows(
         held.now (lease_of cell serial lease_boot)).seen }
 {
     let head = head_of(headers, buckets, next, boot);
-    let lease = Lease {
-        cell,
-        serial,
-        boot: lease_boot,
-    };
+    let lease = lease_of(cell, serial, lease_boot);
     let r = lease::drop_preserving_borrows(head, table, held, lease);
     *reply = skid_words::reply_words(r);
 }
@@ -656,11 +640,7 @@ pub extern "C" fn skid_write_pressure(
         book.old slot (lease_of cell serial lease_boot) (Pressure (of_bits binary32 bits))) }
 {
     let head = head_of(headers, buckets, next, boot);
-    let lease = Lease {
-        cell,
-        serial,
-        boot: lease_boot,
-    };
+    let lease = lease_of(cell, serial, lease_boot);
     let setpoint = pressure(bits);
     let r = book::write_setpoint(head, table, book, slot, lease, setpoint);
     *reply = skid_words::book_words(r);
@@ -687,11 +667,7 @@ pub extern "C" fn skid_write_speed(
         book.old slot (lease_of cell serial lease_boot) (Speed speed)) }
 {
     let head = head_of(headers, buckets, next, boot);
-    let lease = Lease {
-        cell,
-        serial,
-        boot: lease_boot,
-    };
+    let lease = lease_of(cell, serial, lease_boot);
     let r = book::write_setpoint(head, table, book, slot, lease, Setpoint::Speed(speed));
     *reply = skid_words::book_words(r);
 }
@@ -717,11 +693,7 @@ pub extern "C" fn skid_write_valve(
         book.old slot (lease_of cell serial lease_boot) (Valve opened)) }
 {
     let head = head_of(headers, buckets, next, boot);
-    let lease = Lease {
-        cell,
-        serial,
-        boot: lease_boot,
-    };
+    let lease = lease_of(cell, serial, lease_boot);
     let r = book::write_setpoint(head, table, book, slot, lease, Setpoint::Valve(opened));
     *reply = skid_words::book_words(r);
 }

@@ -1,7 +1,9 @@
 -- The words lose nothing: equal words are equal replies.
 -- ---- the way back
-use Rattle.std.specs.Prelude.{ℕ, zero, suc, ◌+◌, ◌<◌, ◌*◌, ◌-◌, ◌≡◌, refl, List, [], ◌∷◌, ◌++◌, true, eqb, length, get_or, take, drop, if◌then◌else◌}
+use Rattle.std.specs.Prelude.{ℕ, zero, suc, ◌+◌, ◌<◌, ◌*◌, ◌-◌, ◌≡◌, refl, List, [], ◌∷◌, ◌++◌, true, eqb, length, get_or, take, drop, if◌then◌else◌, Ok, Err, Result, Option, Some, None}
 use Rattle.std.proofs.Common.{sym, ap, ◌∙◌, arith, add-one, drop_of_length-le, drop-cons}
+use Rattle.types.specs.Checks.{Check, SalvageAnswer}
+use Rattle.types.specs.declared.SalvageRefusal.TheVariants as salvaged
 use Rattle.model.specs.Arena.{head_of, lease_of}
 use Rattle.model.specs.Calls.{counts_of}
 use Rattle.model.specs.Crew.{Work, rests, adds, taken_of, released_of, crew_rules, crew_at_work_rules, shift_of, crew_of, crew_at_work_of}
@@ -10,34 +12,26 @@ use Rattle.model.proofs.Order.{reason_is, refusal_is}
 use Rattle.model.specs.Refusals.{reason_of, refusal_with, first, judge}
 use Rattle.types.specs.declared.Answer.{Answer}
 use Rattle.types.specs.declared.Answer.TheVariants.{Done, Cell, Granted, AllGranted, Busy, Refused, RefusedAt}
-use Rattle.types.specs.declared.Check.{Check}
-use Rattle.types.specs.declared.Check.TheVariants.{Fine, Fault}
 use Rattle.types.specs.declared.CrewReply.{CrewReply}
 use Rattle.types.specs.declared.Head.{Head}
 use Rattle.types.specs.declared.ScriptReply.{ScriptReply}
 use Rattle.types.specs.declared.Refusal.{Refusal}
 use Rattle.types.specs.declared.Reply.{Reply}
-use Rattle.types.specs.declared.SalvageAnswer.{SalvageAnswer}
-use Rattle.types.specs.declared.SalvageAnswer.TheVariants as salvaged
 use Rattle.types.specs.declared.SalvageReply.{SalvageReply}
+use Rattle.setpoint.specs.declared.Setpoint.{Setpoint}
 use Rattle.setpoint.specs.Codec.{has_body, setting_of, decode_of}
 use Rattle.setpoint.specs.RoundTrip.{Held}
 use Rattle.setpoint.proofs.RoundTrip.{setting_back, setting_means, join_small}
-use Rattle.setpoint.specs.declared.Decoded.{Decoded}
-use Rattle.setpoint.specs.declared.Decoded.TheVariants as decoded
 use Rattle.book_rules.specs.Calls.{read_as, line_read, read_version_of, read_setpoint_of}
 use Rattle.book_rules.specs.Layout.{five_at, place_at, newest_at, setting_at}
-use Rattle.book_rules.specs.Rules.{first_fault, judge_book, read_rules}
-use Rattle.book_rules.specs.declared.BookAnswer.{BookAnswer}
-use Rattle.book_rules.specs.declared.BookAnswer.TheVariants as book
-use Rattle.book_rules.specs.declared.BookCheck.{BookCheck}
-use Rattle.book_rules.specs.declared.BookCheck.TheVariants as checked
+use Rattle.book_rules.specs.Rules.{BookAnswer, BookCheck, first_fault, judge_book, read_rules}
+use Rattle.book_rules.specs.declared.BookDone.TheVariants as book
 use Rattle.book_rules.specs.declared.BookRefusal.{BookRefusal}
 use Rattle.book_rules.specs.declared.BookRefusal.TheVariants as fault
-use Rattle.wave_rules.specs.declared.Dumped.{Dumped}
-use Rattle.wave_rules.specs.declared.Dumped.TheVariants as dumped
-use Rattle.wave_rules.specs.declared.Undumped.{Undumped}
-use Rattle.wave_rules.specs.declared.Undumped.TheVariants as undumped
+use Rattle.wave_rules.specs.declared.WriteRefusal.{WriteRefusal}
+use Rattle.wave_rules.specs.declared.WriteRefusal.TheVariants as write_refusal
+use Rattle.wave_rules.specs.declared.ReadRefusal.{ReadRefusal}
+use Rattle.wave_rules.specs.declared.ReadRefusal.TheVariants as read_refusal
 use Rattle.skid_rules.specs.Laws.{six}
 use Rattle.skid_rules.specs.Words.{busy_words, answer_words, reply_words, script_reply_words, each_of, crew_words, salvaged_words, salvage_words, book_number, book_words, dumped_words, undumped_words, told}
 use Rattle.skid_rules.specs.Tells.{answer_in, script_reply_in, reply_in, crew_in, Sixteen, salvaged_in, salvage_in, book_fault, setting_in, book_in, Whole, dumped_in, undumped_in}
@@ -69,8 +63,8 @@ pub script_reply_tells : (r s : ScriptReply) → script_reply_words r ≡ script
 script_reply_tells r s e = sym (script_reply_back r) ∙ ap script_reply_in e ∙ script_reply_back s
 
 either : {A : Type 0} (P : A → Type 0) (k : Check) (f : Refusal → A) (a : A) → ((r : Refusal) → P (f r)) → P a → P (judge k f a)
-either P Fine f a p q = q
-either P (Fault r) f a p q = p r
+either P (Ok tt) f a p q = q
+either P (Err r) f a p q = p r
 
 -- of a run of turns, in either work
 shift_sixteen : (work : Work) (h : Head) (t g counts cells turns counters : List ℕ) → Sixteen (shift_of work h t g counts cells turns counters).seen.0
@@ -106,9 +100,9 @@ pub crew_tells : (r s : CrewReply) → Sixteen r → Sixteen s → crew_words r 
 crew_tells r s x y e = sym (crew_back r x) ∙ ap crew_in e ∙ crew_back s y
 
 salvaged_back : (a : SalvageAnswer) → salvaged_in (salvaged_words a) ≡ a
-salvaged_back (salvaged.Done changed held) = refl
-salvaged_back salvaged.BadShape = refl
-salvaged_back salvaged.ReportFull = refl
+salvaged_back (Ok (changed, held)) = refl
+salvaged_back (Err salvaged.BadShape) = refl
+salvaged_back (Err salvaged.ReportFull) = refl
 
 salvage_back : (r : SalvageReply) → salvage_in (salvage_words r) ≡ r
 unfolding salvage_words
@@ -130,26 +124,26 @@ fault_back fault.NeverWritten = refl
 
 book_back : (a : BookAnswer) → Whole a → book_in (book_words a) ≡ a
 unfolding book_words
-book_back book.Done w = refl
-book_back (book.Written v moved) w = refl
-book_back (book.Setting s v) w = ap (λ (d : Decoded). setting_in d v) (setting_back s w.0 w.1)
-book_back (book.Refused r) w = ap book.Refused (fault_back r)
+book_back (Ok book.Done) w = refl
+book_back (Ok (book.Written v moved)) w = refl
+book_back (Ok (book.Setting s v)) w = ap (λ (d : Option Setpoint). setting_in d v) (setting_back s w.0 w.1)
+book_back (Err r) w = ap Err (fault_back r)
 
 -- what a read tells is so, since a book's bytes are below 256
 line_whole : (b : List ℕ) (k v : ℕ) → ((j : ℕ) → get_or b j 0 < 256) → Whole (line_read b k v)
 unfolding line_read setting_at decode_of five_at
 line_whole b k v bytes = go (setting_at b (place_at b k)) refl
   where
-    go : (d : Decoded) → setting_at b (place_at b k) ≡ d → Whole (read_as d v)
-    go (decoded.Setting s) e =
+    go : (d : Option Setpoint) → setting_at b (place_at b k) ≡ d → Whole (read_as d v)
+    go (Some s) e =
         let p = place_at b k in
         let m = setting_means _ _ s (join_small _ _ _ _ (bytes (p + 1)) (bytes (p + 2)) (bytes (p + 3)) (bytes (p + 4))) e in
         (m.held, m.whole)
-    go decoded.Damaged e = tt
+    go None e = tt
 
-judged_whole : (c : BookCheck) (a : BookAnswer) → Whole a → Whole (judge_book c book.Refused a)
-judged_whole (checked.Fault x) a w = tt
-judged_whole checked.Fine a w = w
+judged_whole : (c : BookCheck) (a : BookAnswer) → Whole a → Whole (judge_book c Err a)
+judged_whole (Err x) a w = tt
+judged_whole (Ok tt) a w = w
 
 pub version_whole : (h : Head) (b : List ℕ) (slot w : ℕ) → ((j : ℕ) → get_or b j 0 < 256) → Whole (read_version_of h b slot w)
 unfolding read_version_of
@@ -163,23 +157,23 @@ read_whole h b slot bytes = version_whole h b slot (newest_at b slot) bytes
 pub book_tells : (a b : BookAnswer) → Whole a → Whole b → book_words a ≡ book_words b → a ≡ b
 book_tells a b x y e = sym (book_back a x) ∙ ap book_in e ∙ book_back b y
 
-dumped_back : (a : Dumped) → dumped_in (dumped_words a) ≡ a
+dumped_back : (a : Result ℕ WriteRefusal) → dumped_in (dumped_words a) ≡ a
 unfolding dumped_words
-dumped_back (dumped.Written size) = refl
-dumped_back dumped.BadScript = refl
-dumped_back dumped.TooWide = refl
-dumped_back dumped.NoRoom = refl
+dumped_back (Ok size) = refl
+dumped_back (Err write_refusal.BadScript) = refl
+dumped_back (Err write_refusal.TooWide) = refl
+dumped_back (Err write_refusal.NoRoom) = refl
 
-undumped_back : (a : Undumped) → undumped_in (undumped_words a) ≡ a
+undumped_back : (a : Result (ℕ × ℕ) ReadRefusal) → undumped_in (undumped_words a) ≡ a
 unfolding undumped_words
-undumped_back (undumped.Read n steps) = refl
-undumped_back (undumped.BadLine k) = refl
-undumped_back undumped.NoRoom = refl
+undumped_back (Ok (n, steps)) = refl
+undumped_back (Err (read_refusal.BadLine k)) = refl
+undumped_back (Err read_refusal.NoRoom) = refl
 
-pub dumped_tells : (a b : Dumped) → dumped_words a ≡ dumped_words b → a ≡ b
+pub dumped_tells : (a b : Result ℕ WriteRefusal) → dumped_words a ≡ dumped_words b → a ≡ b
 dumped_tells a b e = sym (dumped_back a) ∙ ap dumped_in e ∙ dumped_back b
 
-pub undumped_tells : (a b : Undumped) → undumped_words a ≡ undumped_words b → a ≡ b
+pub undumped_tells : (a b : Result (ℕ × ℕ) ReadRefusal) → undumped_words a ≡ undumped_words b → a ≡ b
 undumped_tells a b e = sym (undumped_back a) ∙ ap undumped_in e ∙ undumped_back b
 
 -- and what a caller sees of a call, reply and lent runs, fixes the result itself

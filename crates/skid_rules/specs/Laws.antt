@@ -1,15 +1,15 @@
 -- Laws for the code: an answer's words one by one, the crew's counts stored in a loop, and that what the book's calls answer has a body.
-use Rattle.std.specs.Prelude.{ℕ, suc, ◌+◌, ◌-◌, ◌<◌, ◌≤◌, ◌≡◌, refl, true, List, [], ◌∷◌, ◌++◌, get_or, set, replicate}
+use Rattle.std.specs.Prelude.{ℕ, suc, ◌+◌, ◌-◌, ◌<◌, ◌≤◌, ◌≡◌, refl, true, List, [], ◌∷◌, ◌++◌, get_or, set, replicate, Ok, Err}
 use Rattle.std.proofs.Common.{ap, ◌∙◌, arith}
 use Rattle.std.proofs.lemmas.List.Edits.{sets}
+use Rattle.types.specs.Checks.{SalvageAnswer}
+use Rattle.types.specs.declared.SalvageRefusal.TheVariants as salvaged
 use Rattle.types.specs.declared.Answer.{Answer}
 use Rattle.types.specs.declared.Answer.TheVariants.{Done, Cell, Granted, AllGranted, Busy, Refused, RefusedAt}
 use Rattle.types.specs.declared.Counts.{Counts}
 use Rattle.types.specs.declared.CrewReply.{CrewReply}
 use Rattle.types.specs.declared.Head.{Head}
 use Rattle.types.specs.declared.Lease.{Lease}
-use Rattle.types.specs.declared.SalvageAnswer.{SalvageAnswer}
-use Rattle.types.specs.declared.SalvageAnswer.TheVariants as salvaged
 use Rattle.types.specs.declared.SalvageReply.{SalvageReply}
 use Rattle.setpoint.specs.declared.Setpoint.{Setpoint}
 use Rattle.book_rules.specs.Layout.{newest_at}
@@ -17,8 +17,8 @@ use Rattle.book_rules.specs.Calls.{prepare_book_of, write_setpoint_of, read_setp
 use Rattle.book_rules.specs.Outcomes.{body_read}
 use Rattle.book_rules.specs.Outcomes.{Prepared, was_prepared, not_prepared}
 use Rattle.book_rules.proofs.Outcomes.{preparing_is, Outcome, done, full, refused, writing_is, body_read_lem}
-use Rattle.book_rules.specs.declared.BookAnswer.{BookAnswer}
 use Rattle.skid_rules.specs.Words.{busy_words, answer_words, result_words, each_of, crew_words, salvaged_words, salvage_words}
+use Rattle.book_rules.specs.Rules.{BookAnswer}
 
 pub six : (a : Answer)
     → get_or (answer_words a) 0 0 ∷ get_or (answer_words a) 1 0 ∷ get_or (answer_words a) 2 0 ∷ get_or (answer_words a) 3 0 ∷ get_or (answer_words a) 4 0 ∷ get_or (answer_words a) 5 0 ∷ []
@@ -40,9 +40,9 @@ laid h place k a ws e = rw e (ap (λ (r : List ℕ). h.headers ∷ h.buckets ∷
 
 -- a salvage's answer has three
 pub three : (a : SalvageAnswer) → get_or (salvaged_words a) 0 0 ∷ get_or (salvaged_words a) 1 0 ∷ get_or (salvaged_words a) 2 0 ∷ [] ≡ salvaged_words a
-three (salvaged.Done changed held) = refl
-three salvaged.BadShape = refl
-three salvaged.ReportFull = refl
+three (Ok (changed, held)) = refl
+three (Err salvaged.BadShape) = refl
+three (Err salvaged.ReportFull) = refl
 
 pub salvage_laid : (r : SalvageReply) (ws : List ℕ) → ws ≡ salvaged_words r.answer
     → r.head.headers ∷ r.head.buckets ∷ r.head.next ∷ r.head.boot ∷ get_or ws 0 0 ∷ get_or ws 1 0 ∷ get_or ws 2 0 ∷ [] ≡ salvage_words r

@@ -1,5 +1,7 @@
 -- The layout of a reply as words: what each of them means, once and for all. include/skid.h repeats it for readers.
-use Rattle.std.specs.Prelude.{ℕ, zero, suc, ◌+◌, List, [], ◌∷◌, ◌++◌, get_or}
+use Rattle.std.specs.Prelude.{ℕ, zero, suc, ◌+◌, List, [], ◌∷◌, ◌++◌, get_or, Ok, Err, Result}
+use Rattle.types.specs.Checks.{SalvageAnswer}
+use Rattle.types.specs.declared.SalvageRefusal.TheVariants as salvaged
 use Rattle.model.specs.Calls.{counts_of}
 use Rattle.model.specs.Refusals.{reason_number, reason_serial, number_of, carried_of, refusal_reason}
 use Rattle.types.specs.declared.Answer.{Answer}
@@ -10,19 +12,17 @@ use Rattle.types.specs.declared.Head.{Head}
 use Rattle.types.specs.declared.ScriptReply.{ScriptReply}
 use Rattle.types.specs.declared.Refusal.{Refusal}
 use Rattle.types.specs.declared.Reply.{Reply}
-use Rattle.types.specs.declared.SalvageAnswer.{SalvageAnswer}
-use Rattle.types.specs.declared.SalvageAnswer.TheVariants as salvaged
 use Rattle.types.specs.declared.SalvageReply.{SalvageReply}
 use Rattle.setpoint.specs.Codec.{kind_of, word_of}
-use Rattle.book_rules.specs.declared.BookAnswer.{BookAnswer}
-use Rattle.book_rules.specs.declared.BookAnswer.TheVariants as book
+use Rattle.book_rules.specs.declared.BookDone.TheVariants as book
 use Rattle.book_rules.specs.declared.BookRefusal.{BookRefusal}
 use Rattle.book_rules.specs.declared.BookRefusal.TheVariants as fault
 use Rattle.wave_rules.specs.Answers.{dumped_number}
-use Rattle.wave_rules.specs.declared.Dumped.{Dumped}
-use Rattle.wave_rules.specs.declared.Dumped.TheVariants as dumped
-use Rattle.wave_rules.specs.declared.Undumped.{Undumped}
-use Rattle.wave_rules.specs.declared.Undumped.TheVariants as undumped
+use Rattle.wave_rules.specs.declared.WriteRefusal.{WriteRefusal}
+use Rattle.wave_rules.specs.declared.WriteRefusal.TheVariants as write_refusal
+use Rattle.wave_rules.specs.declared.ReadRefusal.{ReadRefusal}
+use Rattle.wave_rules.specs.declared.ReadRefusal.TheVariants as read_refusal
+use Rattle.book_rules.specs.Rules.{BookAnswer}
 
 -- Busy, by the number of its reason and the serial that goes with it: "held, with the owner's serial"; "waiters seen before the
 -- compare-and-set"; "waiters seen after it. The last one also gives the serial that was spent."
@@ -70,9 +70,9 @@ crew_words r = result_words r.head 0 (counts_of 0 0 0 0) r.answer ++ (r.moving �
 -- of a salvage: the kind of the answer, as in `answer_words`; done, the entries of the report and the cells left held; refused, the number, and
 -- ReportFull, which has none, counts on behind the setpoint book's
 abbrev pub salvaged_words : SalvageAnswer → List ℕ
-salvaged_words (salvaged.Done changed held) = 0 ∷ changed ∷ held ∷ []
-salvaged_words salvaged.BadShape = 5 ∷ 1 ∷ 0 ∷ []
-salvaged_words salvaged.ReportFull = 5 ∷ 106 ∷ 0 ∷ []
+salvaged_words (Ok (changed, held)) = 0 ∷ changed ∷ held ∷ []
+salvaged_words (Err salvaged.BadShape) = 5 ∷ 1 ∷ 0 ∷ []
+salvaged_words (Err salvaged.ReportFull) = 5 ∷ 106 ∷ 0 ∷ []
 
 -- words 0 to 3 the head, as it was given
 unfoldable pub salvage_words : SalvageReply → List ℕ
@@ -94,23 +94,23 @@ book_number fault.NeverWritten = 105
 -- of the setpoint book: the kind of the answer (0 done, 1 written, 2 a setting, 3 refused); the version, or the refusal's number; of a
 -- setting the setpoint's kind, "1, 2, 3 in that order", and the word of its four bytes; of a write the "bytes moved"
 unfoldable pub book_words : BookAnswer → List ℕ
-book_words book.Done = 0 ∷ 0 ∷ 0 ∷ 0 ∷ []
-book_words (book.Written v moved) = 1 ∷ v ∷ moved ∷ 0 ∷ []
-book_words (book.Setting s v) = 2 ∷ v ∷ kind_of s ∷ word_of s ∷ []
-book_words (book.Refused r) = 3 ∷ book_number r ∷ 0 ∷ 0 ∷ []
+book_words (Ok book.Done) = 0 ∷ 0 ∷ 0 ∷ 0 ∷ []
+book_words (Ok (book.Written v moved)) = 1 ∷ v ∷ moved ∷ 0 ∷ []
+book_words (Ok (book.Setting s v)) = 2 ∷ v ∷ kind_of s ∷ word_of s ∷ []
+book_words (Err r) = 3 ∷ book_number r ∷ 0 ∷ 0 ∷ []
 
 -- of the waveform's writer and reader: the kind of the answer (0 done, 1 refused by number, 2 TooWide, 3 NoRoom, 4 BadLine); the bytes
 -- written, the cells read, the refusal's number or the wrong line; the steps read
-unfoldable pub dumped_words : Dumped → List ℕ
-dumped_words (dumped.Written size) = 0 ∷ size ∷ 0 ∷ []
-dumped_words dumped.BadScript = 1 ∷ dumped_number dumped.BadScript ∷ 0 ∷ []
-dumped_words dumped.TooWide = 2 ∷ 0 ∷ 0 ∷ []
-dumped_words dumped.NoRoom = 3 ∷ 0 ∷ 0 ∷ []
+unfoldable pub dumped_words : Result ℕ WriteRefusal → List ℕ
+dumped_words (Ok size) = 0 ∷ size ∷ 0 ∷ []
+dumped_words (Err write_refusal.BadScript) = 1 ∷ dumped_number (Err write_refusal.BadScript) ∷ 0 ∷ []
+dumped_words (Err write_refusal.TooWide) = 2 ∷ 0 ∷ 0 ∷ []
+dumped_words (Err write_refusal.NoRoom) = 3 ∷ 0 ∷ 0 ∷ []
 
-unfoldable pub undumped_words : Undumped → List ℕ
-undumped_words (undumped.Read n steps) = 0 ∷ n ∷ steps ∷ []
-undumped_words undumped.NoRoom = 3 ∷ 0 ∷ 0 ∷ []
-undumped_words (undumped.BadLine k) = 4 ∷ k ∷ 0 ∷ []
+unfoldable pub undumped_words : Result (ℕ × ℕ) ReadRefusal → List ℕ
+undumped_words (Ok (n, steps)) = 0 ∷ n ∷ steps ∷ []
+undumped_words (Err read_refusal.NoRoom) = 3 ∷ 0 ∷ 0 ∷ []
+undumped_words (Err (read_refusal.BadLine k)) = 4 ∷ k ∷ 0 ∷ []
 
 -- a result with its lent runs behind it, told in words
 abbrev pub told : {R A : Type 0} → (R → List ℕ) → R × A → List ℕ × A

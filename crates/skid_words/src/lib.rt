@@ -1,5 +1,7 @@
 // A reply as words, for callers in C or Rust: fifteen of them, the crew's forty-nine, the salvage's seven, the setpoint
 // book's four, or the waveform's three.
+// (a) Kinds and refusals are numbers here: words of include/skid.h. (d) `as u64` stays: of `usize` there is no `From`,
+// and one form serves all words.
 // Crate `skid_rules` lays them out (its specs/Words.antt) and proves that they lose nothing (its specs/Tells.antt).
 #![tactic(auto)]
 
@@ -13,34 +15,20 @@ ghost use Rattle.skid_rules.specs.Words.{reply_words, script_reply_words};
 ghost use Rattle.skid_rules.specs.Words.{each_of, crew_words, salvaged_words, salvage_words, book_number, book_words};
 ghost use Rattle.skid_rules.specs.Words.{dumped_words, undumped_words};
 
-use book_rules::{BookAnswer, BookRefusal};
+use book_rules::{BookAnswer, BookDone, BookRefusal};
 use types::{
-    Answer, Counts, CrewReply, Head, Lease, Refusal, Reply, SalvageAnswer, SalvageReply,
+    Answer, Counts, CrewReply, Head, Lease, Refusal, Reply, SalvageRefusal, SalvageReply,
     ScriptReply,
 };
-use wave_rules::{Dumped, Undumped};
+use wave_rules::{ReadRefusal, WriteRefusal};
 
 // Words 13 and 14 of a refusal: only 11 gives a reason.
 fn reason_words(refusal: Refusal) -> [u64; 2]
     ensures { result ≡ refusal_reason refusal }
 {
     match refusal {
-        Refusal::BadShape => [0, 0],
-        Refusal::BadScript => [0, 0],
-        Refusal::BadHeld(_) => [0, 0],
-        Refusal::TooMany => [0, 0],
-        Refusal::BadBinding(_) => [0, 0],
-        Refusal::BadHeader(_) => [0, 0],
-        Refusal::Poisoned(_) => [0, 0],
-        Refusal::InvalidBucket(_) => [0, 0],
-        Refusal::Damaged(_) => [0, 0],
-        Refusal::SerialsSpent(_) => [0, 0],
-        Refusal::SerializationFailure(why) => [why.number() as u64, why.serial() as u64],
-        Refusal::NotHeld(_) => [0, 0],
-        Refusal::Protected => [0, 0],
-        Refusal::Repeated(_) => [0, 0],
-        Refusal::BadCrew(_) => [0, 0],
-        Refusal::StaleBoot(_) => [0, 0],
+        Refusal::SerializationFailure(why) => [u64::from(why.number()), u64::from(why.serial())],
+        _ => [0, 0],
     }
 }
 
@@ -98,6 +86,7 @@ fn answer_words(answer: Answer) -> [u64; 6]
 }
 
 // The same, with the short answers at hand: a call that is granted or done then calls nothing for its words.
+// (b) Beside `answer_words`: a call left for the words put a release above twice plain Rust (docs/DECISIONS.md, P.5).
 #[inline(always)]
 fn said_words(answer: Answer) -> [u64; 6]
     ensures { result ≡ answer_words answer }
@@ -107,9 +96,7 @@ fn said_words(answer: Answer) -> [u64; 6]
         Answer::Cell(cell) => [1, cell as u64, 0, 0, 0, 0],
         Answer::Granted(lease) => granted_words(lease),
         Answer::AllGranted => [3, 0, 0, 0, 0, 0],
-        Answer::Busy(_) => answer_words(answer),
-        Answer::Refused(_) => answer_words(answer),
-        Answer::RefusedAt(_, _) => answer_words(answer),
+        Answer::Busy(_) | Answer::Refused(_) | Answer::RefusedAt(_, _) => answer_words(answer),
     }
 }
 
@@ -143,10 +130,7 @@ fn words(head: Head, place: usize, counts: Counts, answer: Answer) -> [u64; 15]
 pub fn reply_words(r: Reply) -> [u64; 15]
     ensures { result ≡ reply_words r }
 {
-    let head = r.head;
-    let counts = r.counts;
-    let answer = r.answer;
-    words(head, 0, counts, answer)
+    words(r.head, 0, r.counts, r.answer)
 }
 
 // Of a call with a script.
@@ -154,10 +138,7 @@ pub fn reply_words(r: Reply) -> [u64; 15]
 pub fn script_reply_words(r: ScriptReply) -> [u64; 15]
     ensures { result ≡ script_reply_words r }
 {
-    let head = r.head;
-    let counts = r.counts;
-    let answer = r.answer;
-    words(head, r.place, counts, answer)
+    words(r.head, r.place, r.counts, r.answer)
 }
 
 // Counts of the crew's members, put into its words from a place on.
@@ -165,10 +146,8 @@ fn put_counts(words: &mut [u64; 49], at: usize, counts: &[usize; 16])
     requires { at + 16 ≤ 49 }
     ensures { words.new ≡ sets words.old at (each_of 16 0 counts.now) }
 {
-    let mut i: usize = 0;
-    while i < 16 {
+    for i in 0..16 {
         words[at + i] = counts[i] as u64;
-        i += 1;
     }
 }
 
@@ -177,10 +156,7 @@ pub fn crew_words(r: CrewReply) -> [u64; 49]
     ensures { result ≡ crew_words r }
 {
     let head = r.head;
-    let answer = r.answer;
-    let taken = r.taken;
-    let released = r.released;
-    let said = answer_words(answer);
+    let said = answer_words(r.answer);
     let mut words = [0u64; 49];
     words[0] = head.headers as u64;
     words[1] = head.buckets as u64;
@@ -194,19 +170,19 @@ pub fn crew_words(r: CrewReply) -> [u64; 49]
     words[14] = said[5];
     words[15] = r.moving as u64;
     words[16] = r.idle as u64;
-    put_counts(&mut words, 17, &taken);
-    put_counts(&mut words, 33, &released);
+    put_counts(&mut words, 17, &r.taken);
+    put_counts(&mut words, 33, &r.released);
     words
 }
 
 // Words 4 to 6 of a salvage.
-fn salvaged_words(answer: SalvageAnswer) -> [u64; 3]
+fn salvaged_words(answer: Result<(usize, usize), SalvageRefusal>) -> [u64; 3]
     ensures { result ≡ salvaged_words answer }
 {
     match answer {
-        SalvageAnswer::Done(changed, held) => [0, changed as u64, held as u64],
-        SalvageAnswer::BadShape => [5, 1, 0],
-        SalvageAnswer::ReportFull => [5, 106, 0],
+        Ok((changed, held)) => [0, changed as u64, held as u64],
+        Err(SalvageRefusal::BadShape) => [5, 1, 0],
+        Err(SalvageRefusal::ReportFull) => [5, 106, 0],
     }
 }
 
@@ -215,8 +191,7 @@ pub fn salvage_words(r: SalvageReply) -> [u64; 7]
     ensures { result ≡ salvage_words r }
 {
     let head = r.head;
-    let answer = r.answer;
-    let said = salvaged_words(answer);
+    let said = salvaged_words(r.answer);
     [
         head.headers as u64,
         head.buckets as u64,
@@ -246,42 +221,40 @@ fn book_number(refusal: BookRefusal) -> u64
 }
 
 // Of the setpoint book. A setting has a body, as every read's has: only such a setpoint has a word.
+#[tactic(auto, unfolding(skid_rules::specs::Words::book_words))]
 pub fn book_words(answer: BookAnswer) -> [u64; 4]
     requires { body_read answer ≡ true }
     ensures { result ≡ book_words answer }
 {
     match answer {
-        BookAnswer::Done => [0, 0, 0, 0],
-        BookAnswer::Written(version, moved) => [1, version as u64, moved as u64, 0],
-        BookAnswer::Setting(s, version) => [
-            2,
-            version as u64,
-            setpoint::kind(s) as u64,
-            setpoint::word(s) as u64,
-        ],
-        BookAnswer::Refused(refusal) => [3, book_number(refusal), 0, 0],
+        Ok(BookDone::Done) => [0, 0, 0, 0],
+        Ok(BookDone::Written(version, moved)) => [1, version as u64, moved as u64, 0],
+        Ok(BookDone::Setting(s, version)) => [2, version as u64, s.kind() as u64, s.word() as u64],
+        Err(refusal) => [3, book_number(refusal), 0, 0],
     }
 }
 
 // Of the waveform's writer.
-pub fn dumped_words(answer: Dumped) -> [u64; 3]
+#[tactic(auto, unfolding(skid_rules::specs::Words::dumped_words))]
+pub fn dumped_words(answer: Result<usize, WriteRefusal>) -> [u64; 3]
     ensures { result ≡ dumped_words answer }
 {
     match answer {
-        Dumped::Written(size) => [0, size as u64, 0],
-        Dumped::BadScript => [1, 2, 0],
-        Dumped::TooWide => [2, 0, 0],
-        Dumped::NoRoom => [3, 0, 0],
+        Ok(size) => [0, size as u64, 0],
+        Err(WriteRefusal::BadScript) => [1, 2, 0],
+        Err(WriteRefusal::TooWide) => [2, 0, 0],
+        Err(WriteRefusal::NoRoom) => [3, 0, 0],
     }
 }
 
 // Of its reader.
-pub fn undumped_words(answer: Undumped) -> [u64; 3]
+#[tactic(auto, unfolding(skid_rules::specs::Words::undumped_words))]
+pub fn undumped_words(answer: Result<(usize, usize), ReadRefusal>) -> [u64; 3]
     ensures { result ≡ undumped_words answer }
 {
     match answer {
-        Undumped::Read(cells, steps) => [0, cells as u64, steps as u64],
-        Undumped::BadLine(line) => [4, line as u64, 0],
-        Undumped::NoRoom => [3, 0, 0],
+        Ok((cells, steps)) => [0, cells as u64, steps as u64],
+        Err(ReadRefusal::BadLine(line)) => [4, line as u64, 0],
+        Err(ReadRefusal::NoRoom) => [3, 0, 0],
     }
 }

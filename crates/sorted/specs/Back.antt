@@ -1,8 +1,8 @@
 -- The leases of the distinct cells handed back, one for each key; and multi-lock's parts with a buffer of the call's own.
 use Prim.Native.Nat.{ℕ, zero, suc, ◌+◌, ◌*◌, ◌/◌, ◌<◌, ◌≤◌}
-use Rattle.std.specs.Prelude.{◌≡◌, eqb, length, get_or, set, take, drop, if◌then◌else◌}
+use Rattle.std.specs.Prelude.{◌≡◌, ◌≢◌, Some, None, eqb, length, get_or, set, take, drop, if◌then◌else◌}
 use Rattle.std.proofs.Math.Path.{refl}
-use Rattle.std.proofs.Common.{ap, ◌∙◌, add-one, take-suc, ne_eqb}
+use Rattle.std.proofs.Common.{ap, ◌∙◌, add-one, take-suc, eq-eqb, ne_eqb}
 use mathlib.Core.List.{List, [], ◌∷◌, ◌++◌}
 use native.Mathlib.Omega.{arith}
 use Rattle.model.specs.Arena.{hold_of, holds_of, words_of}
@@ -20,7 +20,7 @@ use Rattle.types.specs.declared.Outcome.TheVariants as outcome
 use Rattle.types.specs.declared.ScriptReply.{ScriptReply}
 use Rattle.types.specs.declared.Run.{Run}
 use Rattle.laws.specs.Checks.{holds_at, holds_end}
-use Rattle.sorted.specs.Marks.{mark_of, LeaseMarked, found_from}
+use Rattle.sorted.specs.Marks.{Found, skip}
 use Rattle.sorted.specs.Order.{take_three}
 
 -- ---- the lease of a cell, a position at a time
@@ -34,10 +34,16 @@ pub hold_on_end : (l : List ℕ) (i c : ℕ) → length l ≤ 3 * i + 2 → hold
 unfolding hold_on
 hold_on_end l i c b = rw (holds_end l i b)
 
--- the search may begin at the mark
-pub hold_marked : (marks l : List ℕ) (c : ℕ) → LeaseMarked marks l 0 → hold_on (holds_of l) c ≡ hold_on (holds_of (drop (3 * mark_of marks c) l)) c
-hold_marked marks l c w =
-    found_from (λ k. hold_on (holds_of (drop (3 * k) l)) c) (λ i. get_or l (3 * i) 0) (length l / 3) c (λ k b n. hold_on_at l k c (omega arith) ∙ rw (ne_eqb _ _ n)) marks w
+-- the search finds it, or there is none
+module _ (l : List ℕ) (c : ℕ) where
+  hold_skip : (k : ℕ) → k ≤ length l / 3 → ((i : ℕ) → i < k → get_or l (3 * i) 0 ≢ c) → hold_on (holds_of l) c ≡ hold_on (holds_of (drop (3 * k) l)) c
+  hold_skip = skip (λ k. hold_on (holds_of (drop (3 * k) l)) c) (λ i. get_or l (3 * i) 0) (length l / 3) c (λ k b n. hold_on_at l k c (omega arith) ∙ rw (ne_eqb _ _ n))
+
+  pub hold_found : (k : ℕ) → Found 3 l c (Some k) → hold_of c (get_or l (3 * k + 1) 0) ≡ hold_on (holds_of l) c
+  hold_found k f = rw (hold_skip k (omega (arith, f.0)) f.2, hold_on_at l k c (omega (arith, f.0)), eq-eqb _ _ f.1, f.1)
+
+  pub hold_missed : Found 3 l c None → no_hold ≡ hold_on (holds_of l) c
+  hold_missed f = rw (hold_skip (length l / 3) (omega arith) f, hold_on_end l (length l / 3) c (omega arith))
 
 -- ---- the grant buffer
 

@@ -1,5 +1,5 @@
 -- The call's steps once multi-lock's checks are fine: what is known then, and that they come to what the definition says.
-use Rattle.std.specs.Prelude.{ℕ, ◌+◌, ◌*◌, ◌≤◌, ◌<◌, ◌≡◌, List, [], ◌++◌, length, take}
+use Rattle.std.specs.Prelude.{ℕ, ◌+◌, ◌*◌, ◌≤◌, ◌<◌, ◌≡◌, List, [], ◌++◌, length, take, Ok}
 use Rattle.std.proofs.Common.{sym, ap, subst, ◌∙◌, arith, length-append, take_at}
 use Rattle.model.specs.Log.{Made, gives}
 use Rattle.model.specs.Arena.{holds_of}
@@ -10,7 +10,6 @@ use Rattle.model.specs.Calls.{starting, given}
 use Rattle.model.specs.Sorted.{cells_asked, cells_sorted, sorted_keys, first_key, judge_at, refused_key_at_once, sorted_locks_of}
 use Rattle.types.specs.declared.Ended.{Ended}
 use Rattle.types.specs.declared.Head.{Head}
-use Rattle.types.specs.declared.KeyCheck.TheVariants as key
 use Rattle.types.specs.declared.ScriptReply.{ScriptReply}
 use Rattle.types.specs.declared.Run.{Run}
 use Rattle.laws.specs.Sorting.{sorted_is}
@@ -95,6 +94,6 @@ pub fine_bindings : (h : Head) (words bytes script place : ℕ) (registry keys :
 fine_bindings h words bytes script place registry keys grants f p l = f.bound p (omega arith)
 
 pub checked_fine : (h : Head) (words bytes script place : ℕ) (registry keys : List ℕ) (grants : ℕ) → LocksFine h words bytes script place registry keys grants
-    → first_key (count_in keys) 0 h registry keys ≡ key.Fine → KeysFine h registry keys
+    → first_key (count_in keys) 0 h registry keys ≡ Ok tt → KeysFine h registry keys
 checked_fine h words bytes script place registry keys grants f e =
     keys_fine h registry keys f.few f.script_ok.shape.few_cells (fine_bindings h words bytes script place registry keys grants f) e

@@ -8,38 +8,32 @@ ghost use Rattle.model.specs.Lock.{binding_at};
 ghost use Rattle.model.specs.Sorted.{first_key};
 ghost use Rattle.sorted.specs.Order.{pair_rules};
 
-use types::{Check, Head, KeyCheck, Refusal};
+use types::{Head, Refusal};
 
 // 6 and 8 of one key.
-fn pair_fault(head: Head, header: u32, bucket: u32) -> Check
+#[tactic(auto, unfolding(model::specs::Refusals::first))]
+fn pair_fault(head: Head, header: u32, bucket: u32) -> Result<(), Refusal>
     ensures { result ≡ first (pair_rules head header bucket) }
 {
     if head.headers <= header {
-        return Check::Fault(Refusal::BadHeader(header));
+        return Err(Refusal::BadHeader(header));
     }
     if head.buckets <= bucket {
-        return Check::Fault(Refusal::InvalidBucket(bucket));
+        return Err(Refusal::InvalidBucket(bucket));
     }
-    Check::Fine
+    Ok(())
 }
 
 // The first position that has one of them.
-pub fn first_key_fault(head: Head, registry: &[u32], keys: &[u32]) -> KeyCheck
+pub fn first_key_fault(head: Head, registry: &[u32], keys: &[u32]) -> Result<(), (Refusal, usize)>
     requires { (p : ℕ) → p < count_in keys.now → binding_at keys.now p < length registry.now }
     ensures { result ≡ first_key (count_in keys.now) 0 head registry.now keys.now }
 {
-    let mut p = 0;
-    while p < keys.len() / 2 {
+    for p in 0..keys.len() / 2 {
         let binding = keys[2 * p] as usize;
-        let fault = pair_fault(head, registry[binding], keys[2 * p + 1]);
-        match fault {
-            Check::Fault(refusal) => {
-                return KeyCheck::FaultAt(refusal, p);
-            }
-            Check::Fine => {
-                p += 1;
-            }
+        if let Err(refusal) = pair_fault(head, registry[binding], keys[2 * p + 1]) {
+            return Err((refusal, p));
         }
     }
-    KeyCheck::Fine
+    Ok(())
 }

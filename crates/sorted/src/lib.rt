@@ -18,9 +18,10 @@ ghost use Rattle.sorted.specs.Steps.{checked_of};
 use back::finish;
 use check::first_key_fault;
 use order::order;
-use types::{Answer, Check, Counts, Head, KeyCheck, Refusal, ScriptReply};
+use types::{Answer, Counts, Head, Refusal, ScriptReply};
 
 // A refusal at a position, before any step.
+// (d) Like `refuse_at_once` of `foreign`, with a position, which its answer has no room for.
 fn refuse_key_at_once(head: Head, place: usize, refusal: Refusal, p: usize) -> ScriptReply
     ensures { result ≡ refused_key_at_once head place refusal p }
 {
@@ -37,18 +38,11 @@ fn refuse_key_at_once(head: Head, place: usize, refusal: Refusal, p: usize) -> S
     }
 }
 
-// Room for the words of 64 keys. It is made apart, so that its words are not met one by one.
-fn room() -> [u32; 128]
-    ensures { length result ≡ 128 }
+// Room for the words of 64 keys, or leases. It is made apart, so that its words are not met one by one.
+fn room<const N: usize>() -> [u32; N]
+    ensures { length result ≡ N }
 {
-    [0; 128]
-}
-
-// Room for the words of 64 leases.
-fn lease_room() -> [u32; 192]
-    ensures { length result ≡ 192 }
-{
-    [0; 192]
+    [0; N]
 }
 
 // What a call does whose checks are fine.
@@ -70,10 +64,10 @@ fn sorted_once(
         script.now place held.now keys.now grants.old).seen }
 {
     let n = keys.len() / 2;
-    let mut asked = room();
-    let mut sorted = room();
-    let mut chosen = room();
-    let mut leases = lease_room();
+    let mut asked = room::<128>();
+    let mut sorted = room::<128>();
+    let mut chosen = room::<128>();
+    let mut leases = room::<192>();
     let m = order(head, registry, keys, &mut asked, &mut sorted, &mut chosen);
     let words = 2 * m;
     let granted = 3 * m;
@@ -119,10 +113,9 @@ fn sorted_checked(
         ≡ (checked_of head table.old health.old registry.now
         script.now place held.now keys.now grants.old).seen }
 {
-    let check = first_key_fault(head, registry, keys);
-    match check {
-        KeyCheck::FaultAt(refusal, p) => refuse_key_at_once(head, place, refusal, p),
-        KeyCheck::Fine => sorted_once(
+    match first_key_fault(head, registry, keys) {
+        Err((refusal, p)) => refuse_key_at_once(head, place, refusal, p),
+        Ok(()) => sorted_once(
             head, table, health, registry, script, place, held, keys, grants,
         ),
     }
@@ -134,6 +127,7 @@ fn sorted_checked(
 // serial and boot number for each key, in the caller's order; keys of one cell share one lease, which `release_all`
 // takes once. A bad header or bucket is refused before any attempt, at its position; a later refusal carries the first
 // position asking for that cell, gives back all that was taken, and leaves the buffer as it was.
+#[tactic(auto, unfolding(model::specs::Sorted::acquire_sorted_of))]
 pub fn acquire_sorted_locks(
     head: Head,
     table: &mut [u32],
@@ -149,12 +143,11 @@ pub fn acquire_sorted_locks(
         ≡ (acquire_sorted_of head table.old health.old registry.now
         script.now place held.now keys.now grants.old).seen }
 {
-    let check = multilock::checks::locks_check(
+    match multilock::checks::locks_check(
         head, table, health, registry, script, place, held, keys, grants,
-    );
-    match check {
-        Check::Fault(refusal) => foreign::refuse_at_once(head, place, refusal),
-        Check::Fine => sorted_checked(
+    ) {
+        Err(refusal) => foreign::refuse_at_once(head, place, refusal),
+        Ok(()) => sorted_checked(
             head, table, health, registry, script, place, held, keys, grants,
         ),
     }

@@ -10,10 +10,8 @@ use Rattle.model.specs.Refusals.{first}
 use Rattle.model.specs.Checks.{count_in}
 use Rattle.model.specs.Crew.{total, start_of, list_of, all_within, rises_from, bad_limits, bad_lists, bad_turns, crew_rules, crew_of, crew_at_work_of}
 use Rattle.model.specs.Sorted.{merge_of, merged_of, sort_of, sorted_of, cells_from, cells_asked, cells_sorted, first_asking, first_key}
-use Rattle.types.specs.declared.Check.TheVariants.{Fine}
 use Rattle.types.specs.declared.CrewReply.{CrewReply}
 use Rattle.types.specs.declared.Head.{Head}
-use Rattle.types.specs.declared.KeyCheck.TheVariants as key
 use Rattle.types.specs.declared.State.TheVariants as state
 use Rattle.laws.specs.Keys.{place_inside}
 use Rattle.laws.specs.Lists.{zeros}

@@ -1,7 +1,7 @@
 -- Demand 3 for callers that ask by keys, in any order and with doubles: their sorted lists make a crew, so none of them can block another for good.
 -- A list that a caller sorts is "a strictly rising list with exactly the cells asked for", and BadCrew asks for rising lists in range.
 -- ---- callers
-use Rattle.std.specs.Prelude.{ℕ, zero, suc, ◌+◌, ◌*◌, ◌-◌, ◌/◌, ◌≤◌, ◌<◌, ◌≡◌, refl, List, [], ◌∷◌, ◌++◌, true, false, not, length, get_or, take, drop, replicate}
+use Rattle.std.specs.Prelude.{ℕ, zero, suc, ◌+◌, ◌*◌, ◌-◌, ◌/◌, ◌≤◌, ◌<◌, ◌≡◌, refl, List, [], ◌∷◌, ◌++◌, true, false, not, length, get_or, take, drop, replicate, Ok}
 use Rattle.std.proofs.Common.{sym, ap, ◌∙◌, subst, inl, inr, arith, length-append, take_at, le-leb, le-ltb, eq-eqb}
 use Rattle.std.proofs.Math.Decide.{dec_lt}
 use Rattle.std.proofs.Math.ListN.{get_or-append}
@@ -11,10 +11,8 @@ use Rattle.model.specs.Refusals.{first}
 use Rattle.model.specs.Checks.{count_in}
 use Rattle.model.specs.Crew.{total, start_of, list_of, all_within, rises_from, bad_limits, bad_lists, bad_turns, crew_rules, crew_of, crew_at_work_of}
 use Rattle.model.specs.Sorted.{merge_of, merged_of, sort_of, sorted_of, cells_from, cells_asked, cells_sorted, first_asking, first_key}
-use Rattle.types.specs.declared.Check.TheVariants.{Fine}
 use Rattle.types.specs.declared.CrewReply.{CrewReply}
 use Rattle.types.specs.declared.Head.{Head}
-use Rattle.types.specs.declared.KeyCheck.TheVariants as key
 use Rattle.types.specs.declared.State.TheVariants as state
 use Rattle.laws.specs.Keys.{place_inside}
 use Rattle.laws.specs.Lists.{zeros}
@@ -57,7 +55,7 @@ All P (c ∷ cs) = P c × All P cs
 
 -- every header and bucket that it names is there, and "0 to 64 cells". Its bindings are not spoken of: one past the registry is refused by the call
 pub record AsksWell (h : Head) (c : Caller) : Type 0 where
-  pub inside : first_key (count_in c.keys) 0 h c.registry c.keys ≡ key.Fine
+  pub inside : first_key (count_in c.keys) 0 h c.registry c.keys ≡ Ok tt
   pub few : length (wants h.buckets c) ≤ 64
 
 -- the arena fits, "1 to 16 members", "K at most 256", "up to 65,536 turns naming members"
@@ -86,7 +84,7 @@ pub record ReadyFor (h : Head) (t g : List ℕ) (callers : List Caller) : Type 0
 abbrev pub CallersAreCrew : Type 0
 CallersAreCrew =
     (h : Head) (t g : List ℕ) (callers : List Caller) (turns : List ℕ) → Crowd h t g callers turns
-    → first (crew_rules h t g (counts_of h.buckets callers) (cells_of_lem h.buckets callers) turns) ≡ Fine
+    → first (crew_rules h t g (counts_of h.buckets callers) (cells_of_lem h.buckets callers) turns) ≡ Ok tt
 
 -- and its members are the callers, in their order: each wants the sorted cells of its caller's keys
 abbrev pub ListsAre : Type 0

@@ -1,9 +1,10 @@
 -- A refused call: at a key's header or bucket before any attempt, exactly then; or later, at the first position that asks for the cell.
 use Prim.Native.Nat.{ℕ, zero, suc, ◌+◌, ◌*◌, ◌<◌}
-use Rattle.std.specs.Prelude.{◌≡◌, refl, ◌⊎◌, ◌↔◌, length, get_or, replicate}
+use Rattle.std.specs.Prelude.{◌≡◌, refl, ◌⊎◌, ◌↔◌, length, get_or, replicate, Ok, Err}
 use Rattle.std.proofs.Common.{sym, ap, ◌∙◌, subst, inl, inr, arith}
 use mathlib.Core.List.{List, [], ◌∷◌, ◌++◌}
 use Rattle.std.proofs.lemmas.List.{length-replicate}
+use Rattle.types.specs.Checks.{Check, Found, KeyCheck}
 use borrow.Author.Tests.{lt-leb}
 use Rattle.choice.specs.Pick.{if_both}
 use Rattle.model.specs.Log.{Made, Event}
@@ -16,11 +17,6 @@ use Rattle.model.specs.Calls.{given, starting, acquire_locks_of}
 use Rattle.model.specs.Sorted.{header_of_key, first_asking, first_key, judge_at, asked_first, acquire_sorted_of}
 use Rattle.types.specs.declared.Answer.{Answer}
 use Rattle.types.specs.declared.Answer.TheVariants.{Done, Cell, Granted, AllGranted, Busy, Refused, RefusedAt}
-use Rattle.types.specs.declared.Check.{Check}
-use Rattle.types.specs.declared.Check.TheVariants.{Fine, Fault}
-use Rattle.types.specs.declared.Found.{Found}
-use Rattle.types.specs.declared.Found.TheVariants as found
-use Rattle.types.specs.declared.KeyCheck.{KeyCheck}
 use Rattle.types.specs.declared.Hold.{Hold}
 use Rattle.types.specs.declared.Outcome.{Outcome}
 use Rattle.types.specs.declared.Outcome.TheVariants as outcome
@@ -58,8 +54,8 @@ lock_otherwise damaged = none_of (λ e. omega arith) (λ e. omega arith)
 lock_otherwise spent = none_of (λ e. omega arith) (λ e. omega arith)
 
 abbrev FoundOtherwise : Found → Type 0
-FoundOtherwise (found.Fault r) = TestsKey r → ⊥
-FoundOtherwise (found.At c) = Unit {0}
+FoundOtherwise (Err r) = TestsKey r → ⊥
+FoundOtherwise (Ok c) = Unit {0}
 
 module _ (e : Setting) (buckets : ℕ) (registry : List ℕ) (binding bucket : ℕ) (header_in : get_or registry binding 0 < e.headers) (bucket_in : bucket < buckets) where
   find_otherwise : (g : List ℕ) → FoundOtherwise (find_of e.headers buckets g registry binding bucket)
@@ -73,8 +69,8 @@ module _ (e : Setting) (buckets : ℕ) (registry : List ℕ) (binding bucket : �
   attempt_otherwise r t g = go (find_of e.headers buckets g registry binding bucket) (find_otherwise g)
     where
       go : (x : Found) → FoundOtherwise x → Otherwise (attempt_at x e buckets r t g).seen.0.outcome
-      go (found.Fault x) h = h
-      go (found.At c) h = lock_otherwise (lock_comes e buckets c r.flow t g)
+      go (Err x) h = h
+      go (Ok c) h = lock_otherwise (lock_comes e buckets c r.flow t g)
 
   retry_otherwise : (left i : ℕ) (last : Reason) (r : Run) (t g : List ℕ) → Otherwise (retry_of left i last e buckets registry binding bucket r t g).seen.0.outcome
   unfolding retry_of
@@ -266,12 +262,12 @@ module _ (w : World) (registry script : List ℕ) (place : ℕ) (held keys grant
   typed_call = acquire_locks registry script place held keys grants
 
   -- a check of multi-lock applies: both calls answer it
-  both_refuse : (r : Refusal) → first (rules w typed_call) ≡ Fault r → (answer_in (perform w sorted_call) ≡ Refused r) × (answer_in (perform w typed_call) ≡ Refused r)
+  both_refuse : (r : Refusal) → first (rules w typed_call) ≡ Err r → (answer_in (perform w sorted_call) ≡ Refused r) × (answer_in (perform w typed_call) ≡ Refused r)
   unfolding perform acquire_sorted_of acquire_locks_of
   both_refuse r e = (rw e, rw e)
 
   -- none applies: neither is refused without a position
-  sorted_positioned : first (rules w typed_call) ≡ Fine → Positioned (answer_in (perform w sorted_call))
+  sorted_positioned : first (rules w typed_call) ≡ Ok tt → Positioned (answer_in (perform w sorted_call))
   sorted_positioned e =
       subst (λ (m : Made (World × Says)). Positioned (answer_in m)) (sym (made_so w sorted_call (clear (rules w sorted_call) e)))
       (judged_at (λ (m : Made (World × Says)). Positioned (answer_in m)) (first_key (count_in keys) 0 w.head registry keys) (λ r p _. tt)
@@ -279,7 +275,7 @@ module _ (w : World) (registry script : List ℕ) (place : ℕ) (held keys grant
       asked_positioned (asked_cells w.head.buckets registry keys) (sorted_cells w.head.buckets registry keys) (sorted_locks w registry script place held keys grants).seen.0.answer
       (locks_positioned (length (sorted_cells w.head.buckets registry keys)) 0 (given w.head script (holds_of held)) w.head.buckets w.head.boot registry (chosen_keys w.head.buckets registry keys) [] (starting w.head place) w.table w.health grants)))
 
-  typed_positioned : first (rules w typed_call) ≡ Fine → Positioned (answer_in (perform w typed_call))
+  typed_positioned : first (rules w typed_call) ≡ Ok tt → Positioned (answer_in (perform w typed_call))
   typed_positioned e =
       subst (λ (m : Made (World × Says)). Positioned (answer_in m)) (sym (made_so w (acquire_locks registry script place held keys grants) (clear (rules w typed_call) e)))
       (locks_positioned (count_in keys) 0 (given w.head script (holds_of held)) w.head.buckets w.head.boot registry keys [] (starting w.head place) w.table w.health grants)
@@ -294,8 +290,8 @@ checks_as_typed w registry script place held keys grants r = go (first (rules w 
     B = answer_in (perform w (acquire_locks registry script place held keys grants))
 
     go : (x : Check) → first (rules w (acquire_locks registry script place held keys grants)) ≡ x → (A ≡ Refused r) ↔ (B ≡ Refused r)
-    go Fine e = (
+    go (Ok tt) e = (
       λ q. absurd (subst Positioned q (sorted_positioned w registry script place held keys grants e)),
       λ q. absurd (subst Positioned q (typed_positioned w registry script place held keys grants e)),
     )
-    go (Fault y) e = let both = both_refuse w registry script place held keys grants y e in (λ q. both.1 ∙ sym both.0 ∙ q, λ q. both.0 ∙ sym both.1 ∙ q)
+    go (Err y) e = let both = both_refuse w registry script place held keys grants y e in (λ q. both.1 ∙ sym both.0 ∙ q, λ q. both.0 ∙ sym both.1 ∙ q)

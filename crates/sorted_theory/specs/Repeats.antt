@@ -1,5 +1,5 @@
 -- "To `release_all` the caller hands each lease once, else 14.": the buffer of doubled keys, given to `release_all` as it is, and each lease once.
-use Rattle.std.specs.Prelude.{ℕ, zero, suc, ◌+◌, ◌*◌, ◌/◌, ◌%◌, ◌≤◌, ◌<◌, ◌≡◌, refl, Bool, true, not, ◌||◌, eqb, get_or, take}
+use Rattle.std.specs.Prelude.{ℕ, zero, suc, ◌+◌, ◌*◌, ◌/◌, ◌%◌, ◌≤◌, ◌<◌, ◌≡◌, refl, Bool, true, not, ◌||◌, eqb, get_or, take, Err}
 use Rattle.std.proofs.Common.{sym, ap, ◌∙◌, subst, arith}
 use mathlib.Core.List.{List, [], ◌∷◌, ◌++◌, append-nil, append_assoc, map}
 use Rattle.std.proofs.Math.Bool.{false}
@@ -16,7 +16,6 @@ use Rattle.model.specs.Checks.{count_in, lease_count, is_odd, too_many_leases, n
 use Rattle.model.specs.Calls.{release_all_of}
 use Rattle.model.specs.Sorted.{shared_of}
 use Rattle.types.specs.declared.Answer.TheVariants.{Done, AllGranted, Refused}
-use Rattle.types.specs.declared.Check.TheVariants.{Fault}
 use Rattle.types.specs.declared.Head.{Head}
 use Rattle.types.specs.declared.Hold.{Hold}
 use Rattle.types.specs.declared.Lease.{Lease}
@@ -65,7 +64,7 @@ named_words boot (l ∷ ls) = ap {B = List Lease} (λ ks. lease_under boot l ∷
 
 repeated_first : (h : Head) (t : List ℕ) (i : ℕ) (earlier ls : List Hold) → ((x : ℕ) → x < length ls → is_live h.next (cells_of h) t (hold_at ls x) ≡ true)
     → (j : ℕ) → j < length ls → is_in (hold_at ls j) (earlier ++ take j ls) ≡ true → ((x : ℕ) → x < j → is_in (hold_at ls x) (earlier ++ take x ls) ≡ false)
-    → first (not_releasable h t i earlier (map (lease_under h.boot) ls)) ≡ Fault (Repeated (i + j))
+    → first (not_releasable h t i earlier (map (lease_under h.boot) ls)) ≡ Err (Repeated (i + j))
 unfolding not_releasable first
 repeated_first h t i earlier [] live j b e none = absurd (omega arith)
 repeated_first h t i earlier (l ∷ ls) live zero b e none =
@@ -114,7 +113,7 @@ take_short [] (suc n) = omega arith
 take_short (k ∷ ls) zero = omega arith
 take_short (k ∷ ls) (suc n) = omega (arith, take_short ls n)
 
-refused_release : (v : World) (b : List ℕ) (r : Refusal) → first (rules v (release_all [] 0 b)) ≡ Fault r → answer_in (perform v (release_all [] 0 b)) ≡ Refused r
+refused_release : (v : World) (b : List ℕ) (r : Refusal) → first (rules v (release_all [] 0 b)) ≡ Err r → answer_in (perform v (release_all [] 0 b)) ≡ Refused r
 unfolding perform release_all_of
 refused_release v b r e = rw e
 
@@ -204,7 +203,7 @@ module _ (w : World) (registry script : List ℕ) (place : ℕ) (held keys grant
         b,
         doubled j (omega (arith, b, l)) x.2,
         λ i k e. differ (sym (x.3 i k) ∙ again i (omega (arith, k, b, l)) e),
-        refused_release v buffer (Repeated j) (checks ∙ repeated_first v.head v.table 0 [] ls live j (omega (arith, b, l, many)) x.2 x.3 ∙ ap (λ (n : ℕ). Fault (Repeated n)) z),
+        refused_release v buffer (Repeated j) (checks ∙ repeated_first v.head v.table 0 [] ls live j (omega (arith, b, l, many)) x.2 x.3 ∙ ap (λ (n : ℕ). Err (Repeated n)) z),
       )
 
   -- ---- each lease once: those of the distinct cells, in rising order

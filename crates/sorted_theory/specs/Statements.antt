@@ -1,7 +1,7 @@
 -- Document 02, L4, "Keys in any order, and doubles", as statements about `acquire_sorted_locks`: of any build, as in crate `history`. What holds of
 -- every call holds of it too (there: `lawful_always`, `counts_are`, `given_live`, `nothing_kept`, `nothing_new`, `buffer_is` and the others).
 -- `Theorems` has the proofs by name. What stands in quotes is of document 01 or 02.
-use Rattle.std.specs.Prelude.{ℕ, ◌+◌, ◌*◌, ◌≤◌, ◌<◌, ◌≡◌, List, [], ◌∷◌, ◌++◌, ◌≢◌, ◌⊎◌, ◌↔◌, length, get_or}
+use Rattle.std.specs.Prelude.{ℕ, ◌+◌, ◌*◌, ◌≤◌, ◌<◌, ◌≡◌, List, [], ◌∷◌, ◌++◌, ◌≢◌, ◌⊎◌, ◌↔◌, length, get_or, Ok}
 use Rattle.model.specs.Log.{Made, Event, by_caller, took}
 use Rattle.model.specs.Arena.{last_serial, holds_of, words_of}
 use Rattle.model.specs.Refusals.{number_of}
@@ -12,7 +12,6 @@ use Rattle.model.specs.Calls.{counts_of}
 use Rattle.model.specs.Sorted.{header_of_key, cells_asked, cells_sorted, sorted_keys, first_key, shared_of, asked_first}
 use Rattle.types.specs.declared.Answer.TheVariants.{Done, AllGranted, Refused, RefusedAt}
 use Rattle.types.specs.declared.Head.{Head}
-use Rattle.types.specs.declared.KeyCheck.TheVariants as key
 use Rattle.types.specs.declared.Refusal.{Refusal}
 use Rattle.types.specs.declared.Refusal.TheVariants.{BadHeader, InvalidBucket, Repeated}
 use Rattle.laws.specs.Checks.{lease_in}
@@ -143,7 +142,7 @@ pub record AsLocks (buckets boot : ℕ) (registry keys grants : List ℕ) (m n :
 -- no check applies and no key is faulty. The buffer of the other call is any that fits
 abbrev pub BeyondChecks : World → (registry script : List ℕ) (place : ℕ) (held keys grants : List ℕ) → Type 0
 BeyondChecks w registry script place held keys grants =
-    Clear (rules w (acquire_sorted registry script place held keys grants)) × (first_key (count_in keys) 0 w.head registry keys ≡ key.Fine)
+    Clear (rules w (acquire_sorted registry script place held keys grants)) × (first_key (count_in keys) 0 w.head registry keys ≡ Ok tt)
 
 -- so what is proved of multi-lock reaches the call; attempts and boundaries count distinct cells, which are at most as many as the keys
 abbrev pub AsMultilock : Build → Type 0

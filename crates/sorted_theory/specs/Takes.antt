@@ -1,9 +1,10 @@
 -- "lock in rising order", read off the log of a granted or a refused call: each key's attempts take its own cell alone, and the sorted cells rise.
 use Prim.Native.Nat.{ℕ, zero, suc, ◌+◌, ◌%◌, ◌≤◌, ◌<◌}
-use Rattle.std.specs.Prelude.{◌≡◌, refl, ◌⊎◌, eqb, length, take}
+use Rattle.std.specs.Prelude.{◌≡◌, refl, ◌⊎◌, eqb, length, take, Ok, Err}
 use Rattle.std.proofs.Common.{sym, inl, inr, arith}
 use Rattle.std.proofs.Math.Path.{subst}
 use mathlib.Core.List.{List, [], ◌∷◌, ◌++◌}
+use Rattle.types.specs.Checks.{Found}
 use Rattle.choice.specs.Pick.{if_both}
 use Rattle.model.specs.Log.{Made, Event, by_caller, by_script, attempt_begun, boundary_run, yielded, spun, step_dropped, took, released, waiters_set, health_set, held_all_lem, added}
 use Rattle.model.specs.Arena.{serial_remains, header_of, is_poisoned, waiters_at, set_cell, state_at, hold_of, holds_of}
@@ -11,8 +12,6 @@ use Rattle.model.specs.Foreign.{Setting, protecting, flow_of, boundary_of}
 use Rattle.model.specs.Lock.{take_in, take_of, after_take, late_stage_of, second_stage_of, lock_of, run_of, find_of, attempt_at, attempt_of, spin_of, pause_of, is_busy, retry_of, hold_at, give_back_of, rollback_of, after_key, binding_at, bucket_at, attempt_limit, none_yet, locks_of}
 use Rattle.model.specs.Calls.{given, starting}
 use Rattle.types.specs.declared.Flow.{Flow}
-use Rattle.types.specs.declared.Found.{Found}
-use Rattle.types.specs.declared.Found.TheVariants as found
 use Rattle.types.specs.declared.Hold.{Hold}
 use Rattle.types.specs.declared.Locked.{Locked}
 use Rattle.types.specs.declared.Outcome.{Outcome}
@@ -143,8 +142,8 @@ module _ (e : Setting) (buckets : ℕ) (registry : List ℕ) (binding bucket : �
   attempt_only r t g = also attempt_begun (inl (λ low. refl)) (go (find_of e.headers buckets g registry binding bucket) (found_own e buckets registry binding bucket g))
     where
       go : (x : Found) → FoundAt own x → Every (Only own) (attempt_at x e buckets r t g).log
-      go (found.Fault x) h = end
-      go (found.At c) h = subst (λ (z : ℕ). Every (Only z) (attempt_at (found.At c) e buckets r t g).log) h (every_append (lock_only e buckets c r.flow t g) end)
+      go (Err x) h = end
+      go (Ok c) h = subst (λ (z : ℕ). Every (Only z) (attempt_at (Ok c) e buckets r t g).log) h (every_append (lock_only e buckets c r.flow t g) end)
 
   spin_only : (r : Run) (t g : List ℕ) → Every (Only own) (spin_of e r t g).log
   unfolding spin_of

@@ -1,6 +1,7 @@
 -- One boundary over a script with takes exchanged too.
-use Rattle.std.specs.Prelude.{ℕ, suc, ◌+◌, ◌-◌, ◌≡◌, refl, List, [], ◌∷◌, ◌++◌, Bool, true, false, eqb, length, get_or, if◌then◌else◌}
+use Rattle.std.specs.Prelude.{ℕ, suc, ◌+◌, ◌-◌, ◌≡◌, refl, List, [], ◌∷◌, ◌++◌, Bool, true, false, eqb, length, get_or, if◌then◌else◌, Ok, Err}
 use Rattle.std.proofs.Common.{sym, ap, ◌∙◌, arith, eqb-true}
+use Rattle.types.specs.Checks.{Check}
 use Rattle.model.specs.Log.{Made, gives, ◌>>=◌}
 use Rattle.model.specs.Arena.{holds_of}
 use Rattle.model.specs.Refusals.{first, judge}
@@ -9,8 +10,6 @@ use Rattle.model.specs.Lock.{run_of}
 use Rattle.model.specs.Checks.{script_rules}
 use Rattle.model.specs.Calls.{given, script_reply, refused_at_once, environment_of}
 use Rattle.types.specs.declared.Answer.TheVariants.{Done}
-use Rattle.types.specs.declared.Check.{Check}
-use Rattle.types.specs.declared.Check.TheVariants as check
 use Rattle.types.specs.declared.Hold.{Hold}
 use Rattle.types.specs.declared.ScriptReply.{ScriptReply}
 use Rattle.types.specs.declared.Refusal.{Refusal}
@@ -106,7 +105,7 @@ environment_retake w held pre ss ts post g u x y r =
     none x = gives (refused_at_once w.head (length pre) x, (w.table, w.health))
 
     go : (k : Check) → ReplyRenamed w (judge k none (runs ss)).seen (judge k none (runs ts)).seen
-    go check.Fine =
+    go (Ok tt) =
         let i = steps_retake ps w ss ts g y r in
         let a = boundary_goes ps w pre ss post 0 u x in
         let b = boundary_goes ps w pre ts post 0 (retaken_unended r u) x in
@@ -119,5 +118,5 @@ environment_retake w held pre ss ts post g u x y r =
           table = ap (λ (v : World). v.table) i.state;
           health = ap (λ (v : World). v.health) i.state;
         })
-    go (check.Fault x) =
+    go (Err x) =
         record { to = λ s. s; back = λ s. s; serials = identity _ _; reply = refl; table = unmoved_owners w.table; health = refl }

@@ -1,10 +1,11 @@
 -- Calls over a script of which stretches were shuffled.
 -- ---- a shuffled stretch gives twins
 use Prim.Native.Nat.{ℕ, ◌+◌}
-use Rattle.std.specs.Prelude.{◌≡◌, length}
+use Rattle.std.specs.Prelude.{◌≡◌, length, Ok, Err}
 use Rattle.std.proofs.Math.Path.{refl}
 use Rattle.std.proofs.Common.{◌∙◌, arith}
 use mathlib.Core.List.{List, [], ◌++◌}
+use Rattle.types.specs.Checks.{Check, KeyCheck}
 use Rattle.model.specs.Log.{Made, gives}
 use Rattle.model.specs.Arena.{spent_to, serial_remains, state_at, holds_of}
 use Rattle.model.specs.Refusals.{first, judge}
@@ -13,11 +14,7 @@ use Rattle.model.specs.Lock.{take_in, take_of, attempt_limit, none_yet}
 use Rattle.model.specs.Checks.{count_in, lease_count, script_rules, lock_rules, bucket_rules, release_rules, locks_rules}
 use Rattle.model.specs.Calls.{starting, environment_of, try_lock_of, transactional_of, acquire_bucket_of, release_all_of, acquire_locks_of}
 use Rattle.model.specs.Sorted.{cells_sorted, sorted_keys, first_key, judge_at, refused_key_at_once, sorted_locks_of, acquire_sorted_of}
-use Rattle.types.specs.declared.Check.{Check}
-use Rattle.types.specs.declared.Check.TheVariants as check
 use Rattle.types.specs.declared.Head.{Head}
-use Rattle.types.specs.declared.KeyCheck.{KeyCheck}
-use Rattle.types.specs.declared.KeyCheck.TheVariants as key
 use Rattle.types.specs.declared.ScriptReply.{ScriptReply}
 use Rattle.types.specs.declared.Refusal.{Refusal}
 use Rattle.types.specs.declared.State.{State}
@@ -72,8 +69,8 @@ module _ (h : Head) (pre ss ts post : List Step) (u : Unended ss) (r : Shuffled 
 
 -- refused alike, or made alike
 judged_two : {A : Type 0} (P : A → A → Type 0) (k : Check) {f : Refusal → A} {m n : A} → ((r : Refusal) → P (f r) (f r)) → P m n → P (judge k f m) (judge k f n)
-judged_two P check.Fine x y = y
-judged_two P (check.Fault r) x y = x r
+judged_two P (Ok tt) x y = y
+judged_two P (Err r) x y = x r
 
 module _ {h : Head} {a b : List ℕ} {Good : Ran → Type 0} (tw : Twins h a b Good) (e : length b ≡ length a) (t g : List ℕ) (place : ℕ)
     (x : Good (flow_of h.next place 0, (t, g))) where
@@ -128,8 +125,8 @@ module _ {h : Head} {a b : List ℕ} {Good : Ran → Type 0} (tw : Twins h a b G
       go : (k : KeyCheck) → (sorted_locks_of h t g registry b place held keys grants).seen ≡ (sorted_locks_of h t g registry a place held keys grants).seen
           → (judge_at k (λ y p. gives (refused_key_at_once h place y p, (t, (g, grants)))) (sorted_locks_of h t g registry b place held keys grants)).seen
           ≡ (judge_at k (λ y p. gives (refused_key_at_once h place y p, (t, (g, grants)))) (sorted_locks_of h t g registry a place held keys grants)).seen
-      go key.Fine q = q
-      go (key.FaultAt y p) q = refl
+      go (Ok tt) q = q
+      go (Err (y, p)) q = refl
 
 -- ---- every call with a script
 

@@ -1,17 +1,16 @@
 -- Calls over two scripts whose boundaries are alike: the same to the end. Each definition is walked through once, stage by stage.
 use Prim.Native.Nat.{ℕ, zero, suc, ◌+◌, ◌%◌}
-use Rattle.std.specs.Prelude.{◌≡◌, Bool, true, false, eqb, length, if◌then◌else◌}
+use Rattle.std.specs.Prelude.{◌≡◌, Bool, true, false, eqb, length, if◌then◌else◌, Ok, Err}
 use Rattle.std.proofs.Math.Path.{refl}
 use mathlib.Core.List.{List, [], ◌∷◌, ◌++◌}
 use Rattle.std.proofs.Math.ListN.{take}
+use Rattle.types.specs.Checks.{Found}
 use Rattle.model.specs.Log.{Made}
 use Rattle.model.specs.Arena.{header_of, is_poisoned, waiters_at, set_cell, hold_of}
 use Rattle.model.specs.Foreign.{flow_of, boundary_of}
 use Rattle.model.specs.Lock.{take_of, after_take, late_stage_of, second_stage_of, lock_of, run_of, find_of, attempt_at, attempt_of, spin_of, pause_of, is_busy, retry_of, hold_at, give_back_of, rollback_of, after_key, binding_at, bucket_at, attempt_limit, none_yet, Locks, locks_of}
 use Rattle.model.specs.Calls.{given}
 use Rattle.types.specs.declared.Flow.{Flow}
-use Rattle.types.specs.declared.Found.{Found}
-use Rattle.types.specs.declared.Found.TheVariants as found
 use Rattle.types.specs.declared.Head.{Head}
 use Rattle.types.specs.declared.Hold.{Hold}
 use Rattle.types.specs.declared.Locked.{Locked}
@@ -88,8 +87,8 @@ module _ {h : Head} {a b : List ℕ} {Good : Ran → Type 0} (tw : Twins h a b G
     attempt_alike r t g x = go (find_of h.headers buckets g registry binding bucket)
       where
         go : (y : Found) → Trying (attempt_at y (given h a ps) buckets r t g) (attempt_at y (given h b ps) buckets r t g)
-        go (found.Fault y) = record { equal = refl; good = x }
-        go (found.At c) = let k = lock_alike ps buckets r.flow t g c x in rw k.equal (record { equal = refl; good = k.good })
+        go (Err y) = record { equal = refl; good = x }
+        go (Ok c) = let k = lock_alike ps buckets r.flow t g c x in rw k.equal (record { equal = refl; good = k.good })
 
     spin_alike : (r : Run) (t g : List ℕ) → Good (r.flow, (t, g)) → Running (spin_of (given h a ps) r t g) (spin_of (given h b ps) r t g)
     unfolding spin_of

@@ -5,6 +5,7 @@ use Rattle.std.specs.Prelude.{◌≡◌, length}
 use Rattle.std.proofs.Math.Path.{refl}
 use Rattle.std.proofs.Common.{◌∙◌, arith}
 use mathlib.Core.List.{List, [], ◌++◌}
+use Rattle.types.specs.Checks.{Check, KeyCheck}
 use Rattle.model.specs.Log.{Made, gives}
 use Rattle.model.specs.Arena.{spent_to, serial_remains, state_at, holds_of}
 use Rattle.model.specs.Refusals.{first, judge}
@@ -13,11 +14,7 @@ use Rattle.model.specs.Lock.{take_in, take_of, attempt_limit, none_yet}
 use Rattle.model.specs.Checks.{count_in, lease_count, script_rules, lock_rules, bucket_rules, release_rules, locks_rules}
 use Rattle.model.specs.Calls.{starting, environment_of, try_lock_of, transactional_of, acquire_bucket_of, release_all_of, acquire_locks_of}
 use Rattle.model.specs.Sorted.{cells_sorted, sorted_keys, first_key, judge_at, refused_key_at_once, sorted_locks_of, acquire_sorted_of}
-use Rattle.types.specs.declared.Check.{Check}
-use Rattle.types.specs.declared.Check.TheVariants as check
 use Rattle.types.specs.declared.Head.{Head}
-use Rattle.types.specs.declared.KeyCheck.{KeyCheck}
-use Rattle.types.specs.declared.KeyCheck.TheVariants as key
 use Rattle.types.specs.declared.ScriptReply.{ScriptReply}
 use Rattle.types.specs.declared.Refusal.{Refusal}
 use Rattle.types.specs.declared.State.{State}

@@ -4,14 +4,13 @@ use Rattle.std.specs.Prelude.{◌≡◌, Bool, true, false, eqb, length, if◌th
 use Rattle.std.proofs.Math.Path.{refl}
 use mathlib.Core.List.{List, [], ◌∷◌, ◌++◌}
 use Rattle.std.proofs.Math.ListN.{take}
+use Rattle.types.specs.Checks.{Found}
 use Rattle.model.specs.Log.{Made}
 use Rattle.model.specs.Arena.{header_of, is_poisoned, waiters_at, set_cell, hold_of}
 use Rattle.model.specs.Foreign.{flow_of, boundary_of}
 use Rattle.model.specs.Lock.{take_of, after_take, late_stage_of, second_stage_of, lock_of, run_of, find_of, attempt_at, attempt_of, spin_of, pause_of, is_busy, retry_of, hold_at, give_back_of, rollback_of, after_key, binding_at, bucket_at, attempt_limit, none_yet, Locks, locks_of}
 use Rattle.model.specs.Calls.{given}
 use Rattle.types.specs.declared.Flow.{Flow}
-use Rattle.types.specs.declared.Found.{Found}
-use Rattle.types.specs.declared.Found.TheVariants as found
 use Rattle.types.specs.declared.Head.{Head}
 use Rattle.types.specs.declared.Hold.{Hold}
 use Rattle.types.specs.declared.Locked.{Locked}

@@ -1,12 +1,12 @@
 -- A number that is printed is read: its digits as the reader of numbers counts and sums them, with anything behind.
-use Rattle.std.specs.Prelude.{ℕ, zero, suc, ◌+◌, ◌*◌, ◌-◌, ◌/◌, ◌%◌, ◌^◌, ◌≤◌, ◌<◌, ◌≢◌, ◌≡◌, refl, List, [], ◌∷◌, ◌++◌, Bool, true, false, ◌&&◌, eqb, ltb, length, get_or, if◌then◌else◌}
+use Rattle.std.specs.Prelude.{ℕ, zero, suc, ◌+◌, ◌*◌, ◌-◌, ◌/◌, ◌%◌, ◌^◌, ◌≤◌, ◌<◌, ◌≢◌, ◌≡◌, refl, List, [], ◌∷◌, ◌++◌, Bool, true, false, ◌&&◌, eqb, ltb, length, get_or, if◌then◌else◌, Some}
 use Rattle.std.proofs.Common.{sym, ap, ◌∙◌, append_assoc, append-nil, arith, mul-le-mul, ne_eqb, lt-ltb, le-ltb, ltb-false}
 use Rattle.std.proofs.lemmas.Bool.{eqb-false}
 use Rattle.io.specs.Digits.{hex_digit_ascii, last_digits, IsDigitCount}
 use Rattle.text.specs.declared.Number.{Number}
-use Rattle.text.specs.Text.{is_digit, digits_in, value_from, no_number, ended_number_of, read_number_of}
+use Rattle.text.specs.Text.{is_digit, digits_in, value_from, no_number, number_of, ended_number_of, read_number_of, value_read, digits_read}
 use Rattle.text.specs.Decimal.{digit_count, decimal_of, length_decimal, digit_count_are, digit_count_is}
-use Rattle.text.specs.Laws.{digit_is}
+use Rattle.text.specs.Laws.{digit_is, value_more}
 
 pub glyph_is : (d : ℕ) → d < 10 → hex_digit_ascii d ≡ 48 + d
 glyph_is d h = rw (lt-ltb d 10 h)
@@ -74,16 +74,16 @@ value_none v (b ∷ r) h = go (is_digit b) h
     go false e = refl
 
 abbrev pub whole_number : ℕ → Number
-whole_number n = record { fine = true; value = n; digits = digit_count n }
+whole_number n = number_of n (digit_count n)
 
 -- a number that is printed is read, if no digit stands behind it
-pub number_back : (n : ℕ) (r : List ℕ) → n ≤ 4294967295 → digits_in r ≡ 0 → read_number_of (decimal_of n ++ r) ≡ whole_number n
+pub number_back : (n : ℕ) (r : List ℕ) → n ≤ 4294967295 → digits_in r ≡ 0 → read_number_of (decimal_of n ++ r) ≡ Some (whole_number n)
 unfolding decimal_of read_number_of ended_number_of
 number_back n r small none = go (digit_count_are n (omega arith))
   where
     go : IsDigitCount 10 1 n (digit_count n)
         → (if ltb 4294967295 (value_from 0 (last_digits 10 (digit_count n) n ++ r)) then no_number
-        else ended_number_of (get_or (last_digits 10 (digit_count n) n ++ r) 0 0) (digits_in (last_digits 10 (digit_count n) n ++ r)) (value_from 0 (last_digits 10 (digit_count n) n ++ r))) ≡ whole_number n
+        else ended_number_of (get_or (last_digits 10 (digit_count n) n ++ r) 0 0) (digits_in (last_digits 10 (digit_count n) n ++ r)) (value_from 0 (last_digits 10 (digit_count n) n ++ r))) ≡ Some (whole_number n)
     go f =
         let v : value_from 0 (last_digits 10 (digit_count n) n ++ r) ≡ n = value_digits (digit_count n) n 0 r f.1 ∙ value_none (10 ^ digit_count n * 0 + n) r none ∙ (omega arith) in
         let c : digits_in (last_digits 10 (digit_count n) n ++ r) ≡ digit_count n = count_digits (digit_count n) n r ∙ rw none (omega arith) in
@@ -100,10 +100,6 @@ all_more b l h = go (is_digit b) refl h
     go : (t : Bool) → is_digit b ≡ t → (if t then 1 + digits_in l else 0) ≡ suc (length l) → (is_digit b ≡ true) × (digits_in l ≡ length l)
     go true e q = (e, omega arith)
     go false e q = absurd (omega arith)
-
-value_more : (v b : ℕ) (l : List ℕ) → is_digit b ≡ true → value_from v (b ∷ l) ≡ value_from (10 * v + (b - 48)) l
-unfolding value_from
-value_more v b l e = rw e
 
 -- so many digits behind v: at least that many zeros, at most that many nines
 value_bounds : (v : ℕ) (l : List ℕ) → digits_in l ≡ length l
@@ -160,7 +156,7 @@ decimal_back n h =
     (rw (append-nil (last_digits 10 (digit_count n) n)) at c ∙ (omega arith), rw (append-nil (last_digits 10 (digit_count n) n)) at v ∙ (omega arith))
 
 -- digits that are read as a number, with nothing behind them, are that number printed
-pub number_whole : (l : List ℕ) → 0 < length l → (read_number_of l).digits ≡ length l → l ≡ decimal_of (read_number_of l).value
+pub number_whole : (l : List ℕ) → 0 < length l → digits_read (read_number_of l) ≡ length l → l ≡ decimal_of (value_read (read_number_of l))
 unfolding read_number_of ended_number_of
 number_whole [] h e = absurd (omega arith)
 number_whole (b ∷ l) h e = go (ltb 4294967295 (value_from 0 (b ∷ l))) refl (eqb (digits_in (b ∷ l)) 0) (eqb b 48 && ltb 1 (digits_in (b ∷ l))) refl e
@@ -174,8 +170,8 @@ number_whole (b ∷ l) h e = go (ltb 4294967295 (value_from 0 (b ∷ l))) refl (
         (same_digits 0 0 (b ∷ l) (decimal_of n) (k ∙ sym (length_decimal n)) all (back.0 ∙ sym (length_decimal n)) (sym back.1)).1
 
     go : (t : Bool) → ltb 4294967295 (value_from 0 (b ∷ l)) ≡ t → (u w : Bool) → (eqb b 48 && ltb 1 (digits_in (b ∷ l))) ≡ w
-        → (if t then no_number else if u then no_number else if w then no_number else record { fine = true; value = value_from 0 (b ∷ l); digits = digits_in (b ∷ l) }).digits ≡ suc (length l)
-        → b ∷ l ≡ decimal_of (if t then no_number else if u then no_number else if w then no_number else record { fine = true; value = value_from 0 (b ∷ l); digits = digits_in (b ∷ l) }).value
+        → digits_read (if t then no_number else if u then no_number else if w then no_number else Some (number_of (value_from 0 (b ∷ l)) (digits_in (b ∷ l)))) ≡ suc (length l)
+        → b ∷ l ≡ decimal_of (value_read (if t then no_number else if u then no_number else if w then no_number else Some (number_of (value_from 0 (b ∷ l)) (digits_in (b ∷ l)))))
     go true p u w z q = absurd (omega arith)
     go false p true w z q = absurd (omega arith)
     go false p false true z q = absurd (omega arith)

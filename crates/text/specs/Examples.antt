@@ -1,10 +1,11 @@
 -- What the number reader reads, computed: the bytes, and the number at their front.
-use Rattle.std.specs.Prelude.{◌≡◌, refl, [], ◌∷◌, true, ℕ}
+use Rattle.std.specs.Prelude.{◌≡◌, refl, [], ◌∷◌, ℕ, Some}
+use Rattle.std.specs.declared.option.Option.{Option}
 use Rattle.text.specs.declared.Number.{Number}
-use Rattle.text.specs.Text.{is_digit, digits_in, value_from, ended_number_of, read_number_of, no_number}
+use Rattle.text.specs.Text.{is_digit, digits_in, value_from, ended_number_of, read_number_of, no_number, number_of}
 
-abbrev read : ℕ → ℕ → Number
-read value digits = record { fine = true; value = value; digits = digits }
+abbrev read : ℕ → ℕ → Option Number
+read value digits = Some (number_of value digits)
 
 -- `42 7`
 first_of_two : read_number_of (52 ∷ 50 ∷ 32 ∷ 55 ∷ []) ≡ read 42 2

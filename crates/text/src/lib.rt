@@ -2,19 +2,16 @@
 // document 01: the waveform and the report call them.
 #![tactic(auto)]
 
-ghost use Rattle.std.specs.Prelude.{◌≡◌, ◌+◌, ◌-◌, ◌≤◌, ◌<◌, ◌&&◌, eqb, ltb, length, get_or, drop};
+ghost use Rattle.std.specs.Prelude.{◌≡◌, ◌+◌, ◌≤◌, length, get_or, drop, take_while, not, ◌==◌};
 ghost use Rattle.io.specs.Counts.{IsPrefixLen};
-ghost use Rattle.text.specs.Text.{before, is_digit, no_number, ended_number_of, read_number_of};
+ghost use Rattle.text.specs.Text.{before, ended_number_of, read_number_of};
 
-// A number that was read: whether one stands there, its value, and how many digits it has.
-#[derive(Clone, Copy)]
+// A number that was read: its value, and how many digits it has.
+#[derive(Clone, Copy, Debug, PartialEq, Eq)]
 pub struct Number {
-    pub fine: bool,
     pub value: u32,
     pub digits: usize,
 }
-
-// ---- splitting
 
 // Where the first `stop` from `at` on stands, or the end. A line ends at a line feed, a word at a space.
 pub fn end_of(bytes: &[u8], at: usize, stop: u8) -> usize
@@ -22,89 +19,43 @@ pub fn end_of(bytes: &[u8], at: usize, stop: u8) -> usize
     ensures value { result ≡ at + before stop (drop at bytes.now) }
     ensures lower_bound { (at ≤ result) × IsPrefixLen result bytes.now }
 {
-    let mut i = at;
-    while i < bytes.len() {
-        if bytes[i] == stop {
-            return i;
-        }
-        i += 1;
-    }
-    i
+    at + count_before(&bytes[at..], stop)
+}
+
+fn count_before(bytes: &[u8], stop: u8) -> usize
+    ensures { result ≡ length (take_while (λ b. not (b == stop)) bytes.now) }
+{
+    bytes.iter().take_while(|b| **b != stop).count()
 }
 
 // ---- numbers
 
-fn is_digit(b: u8) -> bool
-    ensures { result ≡ is_digit b }
+// What so many digits at the front of these bytes come to.
+fn ended(bytes: &[u8], digits: usize, value: u32) -> Option<Number>
+    requires { digits ≤ length bytes.now }
+    ensures { result ≡ ended_number_of (get_or bytes.now 0 0) digits value }
 {
-    if b < 48 {
-        return false;
+    if digits == 0 {
+        return None;
     }
-    b < 58
-}
-
-fn wide(b: u8) -> u64
-    ensures { result ≡ b }
-{
-    b as u64
-}
-
-fn none() -> Number
-    ensures { result ≡ no_number }
-{
-    Number {
-        fine: false,
-        value: 0,
-        digits: 0,
+    if bytes[0] == b'0' && 1 < digits {
+        return None;
     }
-}
-
-// A zero that more digits follow.
-fn padded(b: u8, digits: usize) -> bool
-    ensures { result ≡ (eqb b 48 && ltb 1 digits) }
-{
-    if b == 48 {
-        return 1 < digits;
-    }
-    false
-}
-
-// What these digits come to, from `at` up to `i`, none of them too large.
-fn ended(line: &[u8], at: usize, i: usize, value: u64) -> Number
-    requires { (value ≤ 4294967295) × (at < i → i ≤ length line.now) }
-    ensures { result ≡ ended_number_of (get_or line.now at 0) (i - at) value }
-{
-    if i <= at {
-        return none();
-    }
-    let digits = i - at;
-    if padded(line[at], digits) {
-        return none();
-    }
-    Number {
-        fine: true,
-        value: value as u32,
-        digits,
-    }
+    Some(Number { value, digits })
 }
 
 // The number that stands at `at`: the digits there, up to the first byte that is none.
-pub fn read_number(line: &[u8], at: usize) -> Number
+// (d) Not `parse`, which takes a sign and leading zeros.
+pub fn read_number(line: &[u8], at: usize) -> Option<Number>
     ensures { result ≡ read_number_of (drop at line.now) }
 {
-    let mut value: u64 = 0;
-    let mut i = at;
-    while i < line.len() {
-        let b = line[i];
-        if is_digit(b) {
-            value = 10 * value + (wide(b) - 48);
-            if 4294967295 < value {
-                return none();
-            }
-            i += 1;
-        } else {
-            return ended(line, at, i, value);
+    let rest = line.get(at..)?;
+    let mut value: u32 = 0;
+    for (digits, b) in rest.iter().enumerate() {
+        if !b.is_ascii_digit() {
+            return ended(rest, digits, value);
         }
+        value = value.checked_mul(10)?.checked_add(u32::from(*b - b'0'))?;
     }
-    ended(line, at, i, value)
+    ended(rest, rest.len(), value)
 }

@@ -1,9 +1,8 @@
 -- Document 01, "The arena": the head, and what its own operations give.
-use Rattle.std.specs.Prelude.{ℕ, ◌+◌, ◌*◌, Bool, not, ◌&&◌, ltb, leb, eqb, if◌then◌else◌}
+use Rattle.std.specs.Prelude.{ℕ, ◌+◌, ◌*◌, Bool, not, ◌&&◌, ltb, leb, eqb, if◌then◌else◌, Some, None}
 use Rattle.types.specs.declared.Head.{Head}
 use Rattle.types.specs.declared.Issue.{Issue}
 use Rattle.types.specs.declared.Lease.{Lease}
-use Rattle.types.specs.declared.Serial.TheVariants as serial
 
 -- "The next serial is 1 to 4,294,967,295; at 4,294,967,295 none remains."
 abbrev pub last_serial : ℕ
@@ -45,8 +44,8 @@ spent_to h n = head_of h.headers h.buckets n h.boot
 -- "next serial issued": the serial, and the head without it
 unfoldable pub issue_of : Head → Issue
 issue_of h =
-    if serial_remains h.next then record { head = spent_to h (h.next + 1); serial = serial.Issued h.next }
-    else record { head = h; serial = serial.Spent }
+    if serial_remains h.next then record { head = spent_to h (h.next + 1); serial = Some h.next }
+    else record { head = h; serial = None }
 
 -- document 02, L8: "A lease with another boot number" than the head's
 abbrev pub is_stale : Head → Lease → Bool

@@ -8,7 +8,7 @@ ghost use Rattle.types.specs.Numbers.{reason_number, reason_serial, number_of, c
 
 // The head: header slots H, buckets per header B, the next serial, and the boot number that its preparation was given
 // (document 02, L8). It is handed over and given back by value.
-#[derive(Clone, Copy)]
+#[derive(Clone, Copy, Debug, PartialEq, Eq)]
 pub struct Head {
     pub headers: u32,
     pub buckets: u32,
@@ -17,7 +17,7 @@ pub struct Head {
 }
 
 // A lease, as callers hold it: a cell, the serial that owns it, and the boot number of the head that gave it.
-#[derive(Clone, Copy)]
+#[derive(Clone, Copy, Debug, PartialEq, Eq)]
 pub struct Lease {
     pub cell: u32,
     pub serial: u32,
@@ -25,37 +25,30 @@ pub struct Lease {
 }
 
 // What is left of a lease where its boot number is known to be the head's: the parts of a call go by these pairs.
-#[derive(Clone, Copy)]
+#[derive(Clone, Copy, Debug, PartialEq, Eq)]
 pub struct Hold {
     pub cell: u32,
     pub serial: u32,
 }
 
 // What a cell's bit and owner say.
-#[derive(Clone, Copy)]
+#[derive(Clone, Copy, Debug, PartialEq, Eq)]
 pub enum State {
     Free,
     Held(u32),
     Damaged,
 }
 
-// The next serial, or that none remains.
-#[derive(Clone, Copy)]
-pub enum Serial {
-    Issued(u32),
-    Spent,
-}
-
-// What `Head::issue` hands back: the changed head, and the serial.
-#[derive(Clone, Copy)]
+// What `Head::issue` hands back: the changed head, and the serial, if one remains.
+#[derive(Clone, Copy, Debug, PartialEq, Eq)]
 pub struct Issue {
     pub head: Head,
-    pub serial: Serial,
+    pub serial: Option<u32>,
 }
 
 // Why it is Busy: the cell is held, by this serial; somebody waited before the compare-and-set; somebody waited after
 // it, and this serial was spent.
-#[derive(Clone, Copy)]
+#[derive(Clone, Copy, Debug, PartialEq, Eq)]
 pub enum Reason {
     Held(u32),
     Before,
@@ -64,7 +57,7 @@ pub enum Reason {
 
 // The sixteen refusals, with what each carries (11 carries 4,096, which is the same for all, and the reason of the last
 // attempt).
-#[derive(Clone, Copy)]
+#[derive(Clone, Copy, Debug, PartialEq, Eq)]
 pub enum Refusal {
     BadShape,
     BadScript,
@@ -84,15 +77,9 @@ pub enum Refusal {
     StaleBoot(usize),
 }
 
-// What the checks of a call come to.
-#[derive(Clone, Copy)]
-pub enum Check {
-    Fine,
-    Fault(Refusal),
-}
-
 // A call's answer. `AllGranted` and `RefusedAt` (with the key's position) are multi-lock's alone.
-#[derive(Clone, Copy)]
+// (d) Of seven answers two are refusals, one with a position: a `Result` of five and two is taken apart everywhere.
+#[derive(Clone, Copy, Debug, PartialEq, Eq)]
 pub enum Answer {
     Done,
     Cell(u32),
@@ -104,7 +91,7 @@ pub enum Answer {
 }
 
 // The four counts of a result.
-#[derive(Clone, Copy)]
+#[derive(Clone, Copy, Debug, PartialEq, Eq)]
 pub struct Counts {
     pub attempts: usize,
     pub boundaries: usize,
@@ -113,7 +100,7 @@ pub struct Counts {
 }
 
 // The result of a call that takes no script.
-#[derive(Clone, Copy)]
+#[derive(Clone, Copy, Debug, PartialEq, Eq)]
 pub struct Reply {
     pub head: Head,
     pub counts: Counts,
@@ -121,7 +108,7 @@ pub struct Reply {
 }
 
 // The result of a call that takes a script: the place it left comes with it.
-#[derive(Clone, Copy)]
+#[derive(Clone, Copy, Debug, PartialEq, Eq)]
 pub struct ScriptReply {
     pub head: Head,
     pub place: usize,
@@ -130,7 +117,8 @@ pub struct ScriptReply {
 }
 
 // The result of the crew's run: for each member, cells taken and cells released; moving and idle turns.
-#[derive(Clone, Copy)]
+// (a) Sixteen numbers each, as document 01 has the reply; memory is fixed.
+#[derive(Clone, Copy, Debug, PartialEq, Eq)]
 pub struct CrewReply {
     pub head: Head,
     pub moving: usize,
@@ -143,7 +131,7 @@ pub struct CrewReply {
 // Below: what goes from part to part inside a call.
 
 // What foreign steps change besides table and health: the next serial, the script's place, the steps dropped so far.
-#[derive(Clone, Copy)]
+#[derive(Clone, Copy, Debug, PartialEq, Eq)]
 pub struct Flow {
     pub next: u32,
     pub place: usize,
@@ -151,14 +139,15 @@ pub struct Flow {
 }
 
 // One foreign step: the next serial after it, and 1 where it was dropped.
-#[derive(Clone, Copy)]
+// (a) A count and no bool: the definitions of steps in `model` have it as one, and a boundary adds it up.
+#[derive(Clone, Copy, Debug, PartialEq, Eq)]
 pub struct Stepped {
     pub next: u32,
     pub dropped: usize,
 }
 
 // What one compare-and-set answers; Busy comes with the serial that holds the cell.
-#[derive(Clone, Copy)]
+#[derive(Clone, Copy, Debug, PartialEq, Eq)]
 pub enum Take {
     Granted(u32),
     Busy(u32),
@@ -167,14 +156,15 @@ pub enum Take {
 }
 
 // One compare-and-set: the next serial after it, and its answer.
-#[derive(Clone, Copy)]
+#[derive(Clone, Copy, Debug, PartialEq, Eq)]
 pub struct Took {
     pub next: u32,
     pub answer: Take,
 }
 
 // What an attempt comes to.
-#[derive(Clone, Copy)]
+// (d) Busy is neither a grant nor a refusal.
+#[derive(Clone, Copy, Debug, PartialEq, Eq)]
 pub enum Outcome {
     Granted(Hold),
     Busy(Reason),
@@ -182,22 +172,15 @@ pub enum Outcome {
 }
 
 // One try_lock: the flow after it, its boundaries, what it comes to.
-#[derive(Clone, Copy)]
+#[derive(Clone, Copy, Debug, PartialEq, Eq)]
 pub struct Locked {
     pub flow: Flow,
     pub boundaries: usize,
     pub answer: Outcome,
 }
 
-// A key resolved: its cell, or why there is none.
-#[derive(Clone, Copy)]
-pub enum Found {
-    At(u32),
-    Fault(Refusal),
-}
-
 // What attempts change besides table and health.
-#[derive(Clone, Copy)]
+#[derive(Clone, Copy, Debug, PartialEq, Eq)]
 pub struct Run {
     pub flow: Flow,
     pub attempts: usize,
@@ -206,14 +189,14 @@ pub struct Run {
 }
 
 // Attempts made so far, and what the last one came to.
-#[derive(Clone, Copy)]
+#[derive(Clone, Copy, Debug, PartialEq, Eq)]
 pub struct Tried {
     pub run: Run,
     pub outcome: Outcome,
 }
 
 // What multi-lock's parts come to.
-#[derive(Clone, Copy)]
+#[derive(Clone, Copy, Debug, PartialEq, Eq)]
 pub struct Ended {
     pub run: Run,
     pub answer: Answer,
@@ -231,33 +214,21 @@ pub fn serial_remains(next: u32) -> bool
 
 impl Head {
     // Whether the head and the number of the table's words keep the arena's rules.
+    #[tactic(auto, unfolding(crate::specs::Head::shape_fits, crate::specs::Head::head_fits))]
     pub fn shape_fits(self, words: usize) -> bool
         ensures { result ≡ shape_fits self words }
     {
         let h = self.headers;
         let b = self.buckets;
-        if h < 1 {
-            return false;
-        }
-        if 64 < h {
-            return false;
-        }
-        if b < 1 {
-            return false;
-        }
-        if 1024 < b {
-            return false;
-        }
-        if 4096 < h * b {
-            return false;
-        }
-        if self.next < 1 {
-            return false;
-        }
-        words == (3 * (h * b)) as usize
+        (1..=64).contains(&h)
+            && (1..=1024).contains(&b)
+            && h * b <= 4096
+            && 1 <= self.next
+            && words == (3 * (h * b)) as usize
     }
 
     // Whether there is one health byte for each header.
+    #[tactic(auto, unfolding(crate::specs::Head::health_fits))]
     pub fn health_fits(self, bytes: usize) -> bool
         ensures { result ≡ health_fits self bytes }
     {
@@ -265,19 +236,21 @@ impl Head {
     }
 
     // The next serial, if one remains, and the head without it.
+    #[tactic(auto, unfolding(crate::specs::Head::issue_of))]
     pub fn issue(self) -> Issue
         ensures { result ≡ issue_of self }
     {
         let n = self.next;
         if serial_remains(n) {
-            return Issue {
+            Issue {
                 head: self.spent_to(n + 1),
-                serial: Serial::Issued(n),
-            };
-        }
-        Issue {
-            head: self,
-            serial: Serial::Spent,
+                serial: Some(n),
+            }
+        } else {
+            Issue {
+                head: self,
+                serial: None,
+            }
         }
     }
 
@@ -292,12 +265,7 @@ impl Head {
     pub fn spent_to(self, next: u32) -> Head
         ensures { result ≡ spent_to self next }
     {
-        Head {
-            headers: self.headers,
-            buckets: self.buckets,
-            next,
-            boot: self.boot,
-        }
+        Head { next, ..self }
     }
 }
 
@@ -318,9 +286,8 @@ impl Reason {
         ensures { result ≡ reason_serial self }
     {
         match self {
-            Reason::Held(serial) => serial,
+            Reason::Held(serial) | Reason::After(serial) => serial,
             Reason::Before => 0,
-            Reason::After(serial) => serial,
         }
     }
 }
@@ -355,44 +322,33 @@ impl Refusal {
         ensures { result ≡ carried_of self }
     {
         match self {
-            Refusal::BadShape => 0,
-            Refusal::BadScript => 0,
-            Refusal::BadHeld(n) => n,
-            Refusal::TooMany => 0,
-            Refusal::BadBinding(n) => n,
-            Refusal::BadHeader(n) => n as usize,
-            Refusal::Poisoned(n) => n as usize,
-            Refusal::InvalidBucket(n) => n as usize,
-            Refusal::Damaged(n) => n as usize,
-            Refusal::SerialsSpent(n) => n as usize,
+            Refusal::BadShape | Refusal::BadScript | Refusal::TooMany | Refusal::Protected => 0,
+            Refusal::BadHeld(n)
+            | Refusal::BadBinding(n)
+            | Refusal::NotHeld(n)
+            | Refusal::Repeated(n)
+            | Refusal::BadCrew(n)
+            | Refusal::StaleBoot(n) => n,
+            Refusal::BadHeader(n)
+            | Refusal::Poisoned(n)
+            | Refusal::InvalidBucket(n)
+            | Refusal::Damaged(n)
+            | Refusal::SerialsSpent(n) => n as usize,
             Refusal::SerializationFailure(_) => 4096,
-            Refusal::NotHeld(n) => n,
-            Refusal::Protected => 0,
-            Refusal::Repeated(n) => n,
-            Refusal::BadCrew(n) => n,
-            Refusal::StaleBoot(n) => n,
         }
     }
 }
 
-// Document 02, L6. What a salvage comes to: entries in the report and cells left held, or why nothing was changed.
-#[derive(Clone, Copy)]
-pub enum SalvageAnswer {
-    Done(usize, usize),
+// Document 02, L6. Why a salvage changed nothing.
+#[derive(Clone, Copy, Debug, PartialEq, Eq)]
+pub enum SalvageRefusal {
     BadShape,
     ReportFull,
 }
 
-// The result of a salvage, with the head as it was given.
-#[derive(Clone, Copy)]
+// The result of a salvage, with the head as it was given: entries in the report and cells left held, or the refusal.
+#[derive(Clone, Copy, Debug, PartialEq, Eq)]
 pub struct SalvageReply {
     pub head: Head,
-    pub answer: SalvageAnswer,
-}
-
-// What the tests of the keys come to that go position by position: the first fault, with the position that has it.
-#[derive(Clone, Copy)]
-pub enum KeyCheck {
-    Fine,
-    FaultAt(Refusal, usize),
+    pub answer: Result<(usize, usize), SalvageRefusal>,
 }

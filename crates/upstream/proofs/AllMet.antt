@@ -1,6 +1,6 @@
 -- The premises can be met: what each contract requires (`met-..`), calls that no check refuses, a damaged cell. Small
 -- arenas that are valid, with leases that are authorized.
-use Rattle.std.specs.Prelude.{ℕ, zero, suc, ◌<◌, ◌≤◌, ◌≡◌, refl, List, [], ◌∷◌, length}
+use Rattle.std.specs.Prelude.{ℕ, zero, suc, ◌<◌, ◌≤◌, ◌≡◌, refl, List, [], ◌∷◌, length, Ok}
 use Rattle.std.proofs.Common.{inr, arith}
 use Rattle.model.specs.Arena.{head_of, lease_of, leases_of, holds_of, bit_at, owner_at, waiters_at, is_in, is_free, is_held, state_of, state_at, is_live, same_hold, head_fits, shape_fits, health_fits, registry_fits, hold_of}
 use Rattle.model.specs.Refusals.{first}
@@ -8,7 +8,6 @@ use Rattle.model.specs.Checks.{not_live, not_releasable, bad_bindings, held_leas
 use Rattle.model.specs.Foreign.{boundary_of, run_steps_of}
 use Rattle.model.specs.Lock.{hold_at}
 use Rattle.types.specs.declared.Answer.TheVariants.{Refused}
-use Rattle.types.specs.declared.Check.TheVariants.{Fine}
 use Rattle.types.specs.declared.Refusal.TheVariants.{Damaged}
 use Rattle.history.specs.World.{world_of, Live}
 use Rattle.history.specs.Items.{drop_preserving, try_lock, transactional, release_all, acquire_locks, rules}
@@ -49,11 +48,11 @@ met_own (suc zero) i = refl
 met_own (suc (suc k)) i = absurd (omega arith)
 
 -- `Checked`: calls with and without a script, by cell, by lease, by key, with held lists
-pub met_checked : (first (rules two_held (drop_preserving (0 ∷ 1 ∷ 5 ∷ []) (lease_of 1 2 5))) ≡ Fine)
-    × (first (rules two_held (try_lock [] 0 both 1)) ≡ Fine)
-    × (first (rules two_held (transactional (0 ∷ []) [] 0 both 0 1)) ≡ Fine)
-    × (first (rules two_held (release_all [] 0 both)) ≡ Fine)
-    × (first (rules two_held (acquire_locks (0 ∷ []) [] 0 both (0 ∷ 1 ∷ []) (7 ∷ 7 ∷ 7 ∷ []))) ≡ Fine)
+pub met_checked : (first (rules two_held (drop_preserving (0 ∷ 1 ∷ 5 ∷ []) (lease_of 1 2 5))) ≡ Ok tt)
+    × (first (rules two_held (try_lock [] 0 both 1)) ≡ Ok tt)
+    × (first (rules two_held (transactional (0 ∷ []) [] 0 both 0 1)) ≡ Ok tt)
+    × (first (rules two_held (release_all [] 0 both)) ≡ Ok tt)
+    × (first (rules two_held (acquire_locks (0 ∷ []) [] 0 both (0 ∷ 1 ∷ []) (7 ∷ 7 ∷ 7 ∷ []))) ≡ Ok tt)
 unfolding first shape_fits head_fits health_fits registry_fits leases_of holds_of not_live not_releasable bad_bindings held_lease_rules lock_rules script_rules bucket_rules release_rules
     locks_rules is_in is_live same_hold state_at state_of is_free is_held bit_at owner_at
 met_checked = (refl, refl, refl, refl, refl)

@@ -1,6 +1,6 @@
 -- 000: `acquire_preserving_borrows`, `drop_preserving_borrows` and `foreign_release_between_attempts`: the calls with a
 -- held list and no script.
-use Rattle.std.specs.Prelude.{ℕ, ◌≤◌, ◌<◌, ◌≡◌, List, [], ◌∷◌, ◌++◌, false}
+use Rattle.std.specs.Prelude.{ℕ, ◌≤◌, ◌<◌, ◌≡◌, List, [], ◌∷◌, ◌++◌, false, Ok, Err}
 use Rattle.std.proofs.Math.Path.{refl, subst}
 use Rattle.std.proofs.Common.{sym, ap, ◌∙◌, arith}
 use Rattle.std.proofs.Math.Bool.{not}
@@ -12,7 +12,6 @@ use Rattle.model.specs.Checks.{lease_count, bad_shape, bad_held, bad_held_length
 use Rattle.model.specs.Calls.{acquire_of}
 use Rattle.types.specs.declared.Answer.{Answer}
 use Rattle.types.specs.declared.Answer.TheVariants.{Granted, Refused}
-use Rattle.types.specs.declared.Check.TheVariants.{Fine, Fault}
 use Rattle.types.specs.declared.Lease.{Lease}
 use Rattle.types.specs.declared.Refusal.TheVariants.{BadHeld, InvalidBucket, Damaged, SerialsSpent, NotHeld, Protected}
 use Rattle.laws.specs.Checks.{first_hit, first_skip}
@@ -43,7 +42,7 @@ use Rattle.upstream.specs.Borrows.{Before}
 
 module _ (w : Authority) (held : List ℕ) (c : Key) where
   abbrev Checked₁ : Type 0
-  Checked₁ = first (rules w (acquire_preserving held c)) ≡ Fine
+  Checked₁ = first (rules w (acquire_preserving held c)) ≡ Ok tt
 
   abbrev result₁ : Answer
   result₁ = answers w (acquire_preserving held c)
@@ -107,7 +106,7 @@ module _ (w : Authority) (held : List ℕ) (c : Key) where
 
 module _ (w : Authority) (held : List ℕ) (l : Lease) where
   abbrev Checked₂ : Type 0
-  Checked₂ = first (rules w (drop_preserving held l)) ≡ Fine
+  Checked₂ = first (rules w (drop_preserving held l)) ≡ Ok tt
 
   abbrev result₂ : Answer
   result₂ = answers w (drop_preserving held l)
@@ -172,7 +171,7 @@ module _ (w : Authority) (held : List ℕ) (l : Lease) where
 
 module _ (w : Authority) (held : List ℕ) (l : Lease) where
   abbrev Checked₃ : Type 0
-  Checked₃ = first (rules w (foreign_release held l)) ≡ Fine
+  Checked₃ = first (rules w (foreign_release held l)) ≡ Ok tt
 
   abbrev result₃ : Answer
   result₃ = answers w (foreign_release held l)
@@ -246,7 +245,7 @@ module _ (w : Authority) (held : List ℕ) (l : Lease) where
 -- ---- the limits: a held list that is no list of leases, or has more than 64, is 3 with its number of leases
 
 module _ (w : Authority) (held : List ℕ) where
-  too_long : (ys : List Rule) → Fits w → 64 < lease_count held → first (bad_shape w.head w.table ∷ (bad_held w.head w.table held ++ ys)) ≡ Fault (BadHeld (lease_count held))
+  too_long : (ys : List Rule) → Fits w → 64 < lease_count held → first (bad_shape w.head w.table ∷ (bad_held w.head w.table held ++ ys)) ≡ Err (BadHeld (lease_count held))
   too_long ys s b = first_skip (bad_shape w.head w.table) _ (ap not s) ∙ first_hit (bad_held_length held) _ (over held b)
 
   pub acquire_too_long : (c : Key) → Fits w → 64 < lease_count held

@@ -1,13 +1,12 @@
 -- From document 01's words to upstream's: valid and authorized, events and steps, refusals.
 -- ---- valid: no cell is damaged
-use Rattle.std.specs.Prelude.{ℕ, zero, suc, ◌+◌, ◌*◌, ◌≤◌, ◌<◌, ◌≡◌, refl, List, [], ◌∷◌, ◌++◌, true, ◌⊎◌, length}
+use Rattle.std.specs.Prelude.{ℕ, zero, suc, ◌+◌, ◌*◌, ◌≤◌, ◌<◌, ◌≡◌, refl, List, [], ◌∷◌, ◌++◌, true, ◌⊎◌, length, Ok, Err}
 use Rattle.std.proofs.Common.{sym, ap, ◌∙◌, subst, inl, inr, arith, eq-eqb, ne_eqb}
 use Rattle.std.proofs.Math.Decide.{dec_lt}
 use Rattle.model.specs.Log.{Made, Event, attempt_begun, boundary_run, yielded, spun, step_dropped, took, released, waiters_set, health_set, held_all_lem, added}
 use Rattle.model.specs.Arena.{cells_of, hold_of, hold_in, leases_of, holds_of, bit_at, owner_at, set_cell, shape_fits}
 use Rattle.model.specs.Refusals.{Rule, refusal_of, first}
 use Rattle.model.specs.Lock.{hold_at, no_hold}
-use Rattle.types.specs.declared.Check.TheVariants.{Fine, Fault}
 use Rattle.types.specs.declared.Hold.{Hold}
 use Rattle.types.specs.declared.Refusal.{Refusal}
 use Rattle.laws.specs.Shape.{shaped}
@@ -195,11 +194,11 @@ lawful_trace protected w (e ∷ es) z k u =
 -- ---- checks
 
 -- none of the checks before it applies
-pub first_after : (xs : List Rule) (x : Rule) (ys : List Rule) → Clear xs → x.applies ≡ true → first (xs ++ (x ∷ ys)) ≡ Fault (refusal_of x.number x.carries)
+pub first_after : (xs : List Rule) (x : Rule) (ys : List Rule) → Clear xs → x.applies ≡ true → first (xs ++ (x ∷ ys)) ≡ Err (refusal_of x.number x.carries)
 first_after [] x ys c e = first_hit x ys e
 first_after (y ∷ xs) x ys c e = first_skip y (xs ++ (x ∷ ys)) c.0 ∙ first_after xs x ys c.1 e
 
 -- what holds of a call that a check refuses and of its steps, holds of the call
 pub by_checks : (P : Made (World × Says) → Type 0) (w : World) (k : Call)
-    → ((r : Refusal) → first (rules w k) ≡ Fault r → P (unchanged w k r)) → (first (rules w k) ≡ Fine → Clear (rules w k) → P (past_checks w k)) → P (perform w k)
+    → ((r : Refusal) → first (rules w k) ≡ Err r → P (unchanged w k r)) → (first (rules w k) ≡ Ok tt → Clear (rules w k) → P (past_checks w k)) → P (perform w k)
 by_checks P w k x y = performed_by P w k x (λ c. y (clear_fine (rules w k) c) c)

@@ -1,9 +1,10 @@
 -- 000 and 001: `transactional_try_lock_bucket`, `acquire_index_bucket`, and `poisoned` and `yield_now` in them.
-use Rattle.std.specs.Prelude.{ℕ, suc, ◌≤◌, ◌<◌, ◌≡◌, false, length, get_or}
+use Rattle.std.specs.Prelude.{ℕ, suc, ◌≤◌, ◌<◌, ◌≡◌, false, length, get_or, Ok, Err}
 use Rattle.std.proofs.Math.Path.{ap}
 use Rattle.std.proofs.Common.{◌∙◌, arith, le-leb}
 use mathlib.Core.List.{List, [], ◌∷◌}
 use Rattle.std.proofs.lemmas.Bool.{not-false}
+use Rattle.types.specs.Checks.{Found}
 use Rattle.model.specs.Arena.{hold_in, holds_of}
 use Rattle.model.specs.Answers.{kind_of}
 use Rattle.model.specs.Refusals.{Rule, first}
@@ -12,10 +13,7 @@ use Rattle.model.specs.Foreign.{Setting}
 use Rattle.model.specs.Lock.{find_of, answer_of, settled, attempt_at, attempt_of, attempt_limit, none_yet, retry_of}
 use Rattle.model.specs.Calls.{given, starting}
 use Rattle.types.specs.declared.Answer.TheVariants.{Granted, Refused}
-use Rattle.types.specs.declared.Check.TheVariants.{Fine, Fault}
 use Rattle.types.specs.declared.Counts.{Counts}
-use Rattle.types.specs.declared.Found.{Found}
-use Rattle.types.specs.declared.Found.TheVariants as found
 use Rattle.types.specs.declared.Hold.{Hold}
 use Rattle.types.specs.declared.Lease.{Lease}
 use Rattle.types.specs.declared.Outcome.{Outcome}
@@ -56,7 +54,7 @@ module _ (w : Authority) (registry script : List ℕ) (place : ℕ) (held : List
   Before = bad_shape w.head w.table ∷ bad_health w.head w.health ∷ bad_registry registry ∷ bad_script script place ∷ bad_held w.head w.table held
 
   abbrev Checked : Type 0
-  Checked = first (rules w one) ≡ Fine
+  Checked = first (rules w one) ≡ Ok tt
 
   abbrev setting : Setting
   setting = given w.head script (holds_of held)
@@ -125,11 +123,11 @@ module _ (w : Authority) (registry script : List ℕ) (place : ℕ) (held : List
   many_refused f x a =
       by_checks (λ m. m.seen.1.answer ≡ Refused x) w many (λ r e. absurd (fine_fault f e)) (λ e k. ap (λ (o : Outcome). answer_of w.head.boot (settled o)) (at_once 4095 x a))
 
-  bad_key : (x : Refusal) → find₁ ≡ found.Fault x → attempted ≡ outcome.Refused x
+  bad_key : (x : Refusal) → find₁ ≡ Err x → attempted ≡ outcome.Refused x
   unfolding attempt_of
   bad_key x e = ap (λ (f : Found). (attempt_at f setting w.head.buckets begun w.table w.health).seen.0.outcome) e
 
-  damaged_key : (c : Key) → find₁ ≡ found.At c → SwapDamaged w script place held c → attempted ≡ outcome.Refused (Damaged c)
+  damaged_key : (c : Key) → find₁ ≡ Ok c → SwapDamaged w script place held c → attempted ≡ outcome.Refused (Damaged c)
   unfolding attempt_of
   damaged_key c e d =
       ap (λ (f : Found). (attempt_at f setting w.head.buckets begun w.table w.health).seen.0.outcome) e
@@ -142,7 +140,7 @@ module _ (w : Authority) (registry script : List ℕ) (place : ℕ) (held : List
       → answers w one ≡ Refused (Damaged (key_of w header₁ bucket))
   transactional_try_lock_bucket_r1 f e d = one_refused f (Damaged (key_of w header₁ bucket)) (damaged_key (key_of w header₁ bucket) (find_at w registry binding bucket e) d)
 
-  past : length registry ≤ binding → Clear Before → first (rules w one) ≡ Fault (BadBinding 0)
+  past : length registry ≤ binding → Clear Before → first (rules w one) ≡ Err (BadBinding 0)
   unfolding bucket_rules
   past l k = first_after Before (bad_binding registry 0 binding) [] k (le-leb (length registry) binding l)
 
@@ -154,7 +152,7 @@ module _ (w : Authority) (registry script : List ℕ) (place : ℕ) (held : List
   abbrev BeforeHeld : List Rule
   BeforeHeld = bad_shape w.head w.table ∷ bad_health w.head w.health ∷ bad_registry registry ∷ bad_script script place ∷ []
 
-  unheld : (i : ℕ) → Clear BeforeHeld → (bad_held_length held).applies ≡ false → FirstBad w held i → first (rules w one) ≡ Fault (BadHeld i)
+  unheld : (i : ℕ) → Clear BeforeHeld → (bad_held_length held).applies ≡ false → FirstBad w held i → first (rules w one) ≡ Err (BadHeld i)
   unfolding bucket_rules
   unheld i k b f = held_refused BeforeHeld w held i _ k b f
 

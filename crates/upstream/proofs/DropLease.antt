@@ -1,6 +1,6 @@
 -- 000: `drop_lease`, and the store inside it (`Atomics::store`).
 -- ---- what one release comes to, whatever the table holds; F says that no check of the call applies
-use Rattle.std.specs.Prelude.{◌≡◌, refl, ◌≢◌}
+use Rattle.std.specs.Prelude.{◌≡◌, refl, ◌≢◌, Ok}
 use Rattle.std.proofs.Common.{sym}
 use Rattle.std.proofs.lemmas.Bool.{not-false}
 use Rattle.model.specs.Log.{by_caller, released}
@@ -9,7 +9,6 @@ use Rattle.model.specs.Refusals.{first}
 use Rattle.model.specs.Checks.{lease_rules}
 use Rattle.types.specs.declared.Answer.{Answer}
 use Rattle.types.specs.declared.Answer.TheVariants.{Done, Refused}
-use Rattle.types.specs.declared.Check.TheVariants.{Fine}
 use Rattle.types.specs.declared.Hold.{Hold}
 use Rattle.types.specs.declared.Lease.{Lease}
 use Rattle.types.specs.declared.Refusal.{Refusal}
@@ -66,7 +65,7 @@ module _ (w : Authority) (l : Lease) where
   final = leaves w (drop_lease l)
 
   abbrev Checked : Type 0
-  Checked = first (rules w (drop_lease l)) ≡ Fine
+  Checked = first (rules w (drop_lease l)) ≡ Ok tt
 
   tried : Drops Checked w (hold_in l) result final
   unfolding lease_rules

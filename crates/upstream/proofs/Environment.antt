@@ -1,7 +1,7 @@
 -- 000: `Scheduler::interfere`, `environment` and `environment_for_borrows`: one boundary of the script, a trace of
 -- upstream's steps.
 -- ---- what a call with a script comes to: a trace that releases no held lease; what it grants is authorized
-use Rattle.std.specs.Prelude.{ℕ, ◌≡◌, false}
+use Rattle.std.specs.Prelude.{ℕ, ◌≡◌, false, Err}
 use Rattle.std.proofs.Common.{sym, ap, subst, arith}
 use mathlib.Core.List.{List, [], ◌∷◌, ◌++◌, append-nil}
 use Rattle.std.proofs.lemmas.Bool.{not-false}
@@ -12,7 +12,6 @@ use Rattle.model.specs.Checks.{bad_shape, bad_health, bad_script, bad_held, bad_
 use Rattle.model.specs.Foreign.{flow_of}
 use Rattle.types.specs.declared.Answer.{Answer}
 use Rattle.types.specs.declared.Answer.TheVariants.{Granted, Refused}
-use Rattle.types.specs.declared.Check.TheVariants.{Fault}
 use Rattle.types.specs.declared.Hold.{Hold}
 use Rattle.types.specs.declared.Lease.{Lease}
 use Rattle.types.specs.declared.Refusal.{Refusal}
@@ -68,7 +67,7 @@ module _ (w : Authority) (script : List ℕ) (place : ℕ) (held : List ℕ) whe
   unfolding script_rules
   environment_r2 i c b f =
       refused_so w (environment script place held) (BadHeld i)
-      (subst (λ (xs : List Rule). first (bad_shape w.head w.table ∷ bad_health w.head w.health ∷ bad_script script place ∷ xs) ≡ Fault (BadHeld i))
+      (subst (λ (xs : List Rule). first (bad_shape w.head w.table ∷ bad_health w.head w.health ∷ bad_script script place ∷ xs) ≡ Err (BadHeld i))
       (append-nil (bad_held w.head w.table held))
       (held_refused (bad_shape w.head w.table ∷ bad_health w.head w.health ∷ bad_script script place ∷ []) w held i [] c b f))
 

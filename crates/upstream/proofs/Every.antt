@@ -3,7 +3,7 @@
 -- Room: at most 32,768 steps, and a serial for each take.
 -- ---- one authority in upstream's sense: the same cells, the same next serial
 use Prim.Native.Nat.{ℕ, zero, suc, ◌+◌, ◌*◌, ◌-◌, ◌%◌, ◌≤◌, ◌<◌}
-use Rattle.std.specs.Prelude.{◌≡◌, refl, List, [], ◌∷◌, ◌++◌, Bool, true, false, not, eqb, get_or, if◌then◌else◌}
+use Rattle.std.specs.Prelude.{◌≡◌, refl, List, [], ◌∷◌, ◌++◌, Bool, true, false, not, eqb, get_or, if◌then◌else◌, Ok}
 use Rattle.std.proofs.Math.Path.{sym, subst}
 use Rattle.std.proofs.Common.{ap, ◌∙◌, append-nil, append_assoc, lt-ltb, le-ltb, eq-eqb, length-append, get_or-append-add}
 use native.Mathlib.Omega.{arith}
@@ -14,7 +14,6 @@ use Rattle.model.specs.Refusals.{first}
 use Rattle.model.specs.Checks.{bad_script}
 use Rattle.model.specs.Foreign.{Setting, steps_in, kind_at, place_at, number_at, stepped, flow_of, step_take_of, step_release_of, step_of, run_steps_of, boundary_of}
 use Rattle.model.specs.Calls.{given}
-use Rattle.types.specs.declared.Check.TheVariants.{Fine}
 use Rattle.types.specs.declared.Flow.{Flow}
 use Rattle.types.specs.declared.Head.{Head}
 use Rattle.types.specs.declared.Hold.{Hold}
@@ -335,7 +334,7 @@ pub record DoneBy (w after : Authority) (held : List ℕ) (states : List Authori
   -- as many steps as events, in words of 32 bits; no check of the call applies
   pub as_many : steps_in script ≡ length events
   pub words : (i : ℕ) → get_or script i 0 ≤ last_serial
-  pub passes : first (rules w (environment script 0 held)) ≡ Fine
+  pub passes : first (rules w (environment script 0 held)) ≡ Ok tt
   -- after its first i steps the state is the trace's; at the end it is what the call leaves, and no step was dropped
   pub states_are : (i : ℕ) → i ≤ length events
       → Alike (get_or states i w) (of_flow w.head (run_steps_of i (given w.head script (holds_of held)) (flow_of (next_serial w) 0 0) w.table w.health).seen)
@@ -367,7 +366,7 @@ every_environment w after held states events s g b v p r few m = (
     many : steps_in script ≡ length events
     many = div-eq_of_eq-mul_left (omega arith) (length_for events ∙ (let z : 3 * length events ≡ length events * 3 = omega arith in z))
 
-    passes : first (rules w (environment script 0 held)) ≡ Fine
+    passes : first (rules w (environment script 0 held)) ≡ Ok tt
     passes = script_passes w script 0 held (ap not s, (ap not g, (script_formed script (ap (λ (k : ℕ). k % 3) (length_for events) ∙ mul-mod_right 3 (length events)) (omega (arith, many, few)), tt))) b (valid_leases w (holds_of held) v p) p
 
     reading : Reads script 0 events

@@ -2,7 +2,7 @@
 -- it is in the arena.
 -- ---- a cell number tells header and bucket
 use Prim.Native.Nat.{ℕ, zero, suc, ◌+◌, ◌*◌, ◌/◌, ◌%◌, ◌≤◌, ◌<◌}
-use Rattle.std.specs.Prelude.{◌≡◌, false, length, get_or}
+use Rattle.std.specs.Prelude.{◌≡◌, false, length, get_or, Err}
 use Rattle.std.proofs.Math.Path.{refl, ap, subst}
 use Rattle.std.proofs.Common.{sym, ◌∙◌, mul-le-mul_right, suc-mul, div-add-mod', mod-lt, le-leb, length-append}
 use mathlib.Core.List.{List, [], ◌∷◌, ◌++◌}
@@ -11,6 +11,7 @@ use Rattle.std.proofs.Math.Decide.{ℕ_discrete, dec_lt}
 use Rattle.std.proofs.lemmas.Bool.{lt-leb}
 use Rattle.std.proofs.Math.ListN.{get_or-append}
 use Rattle.std.proofs.Math.Seq.{get_or-append_seam}
+use Rattle.types.specs.Checks.{Check}
 use Rattle.model.specs.Arena.{cell_number, hold_in, holds_of, words_of}
 use Rattle.model.specs.Answers.{kind_of}
 use Rattle.model.specs.Refusals.{Rule, first}
@@ -19,8 +20,6 @@ use Rattle.model.specs.Foreign.{Setting, protecting}
 use Rattle.model.specs.Lock.{no_hold, hold_at, binding_at, bucket_at, attempt_limit, none_yet, retry_of, rollback_of, after_key, locks_of, Locks}
 use Rattle.model.specs.Calls.{given, starting}
 use Rattle.types.specs.declared.Answer.TheVariants.{Granted, AllGranted}
-use Rattle.types.specs.declared.Check.{Check}
-use Rattle.types.specs.declared.Check.TheVariants.{Fault}
 use Rattle.types.specs.declared.Hold.{Hold}
 use Rattle.types.specs.declared.Lease.{Lease}
 use Rattle.types.specs.declared.Outcome.{Outcome}
@@ -116,7 +115,7 @@ module _ (e : Setting) (buckets boot : ℕ) (registry keys grants : List ℕ) wh
 
 -- a binding past the registry: 5 with the first position
 past_first : (registry keys : List ℕ) (left n i : ℕ) → i < left → ((j : ℕ) → j < i → binding_at keys (n + j) < length registry) → length registry ≤ binding_at keys (n + i)
-    → first (bad_bindings left n registry keys) ≡ Fault (BadBinding (n + i))
+    → first (bad_bindings left n registry keys) ≡ Err (BadBinding (n + i))
 unfolding bad_bindings
 past_first registry keys zero n i l before at = absurd (omega arith)
 past_first registry keys (suc left) n zero l before at =
@@ -151,7 +150,7 @@ module _ (w : Authority) (registry script : List ℕ) (place : ℕ) (held keys g
       refused_so w call (BadBinding i)
       (first_clear Before _ k ∙ first_skip (too_many_keys held keys grants) _ m
       ∙ past_first registry keys (count_in keys) 0 i l (λ j p. let y : 0 + j ≡ j = omega arith in rw y (before j p)) (let z : 0 + i ≡ i = omega arith in rw z at)
-      ∙ ap {B = Check} (λ n. Fault (BadBinding n)) (let z : 0 + i ≡ i = omega arith in z))
+      ∙ ap {B = Check} (λ n. Err (BadBinding n)) (let z : 0 + i ≡ i = omega arith in z))
 
   all_match : answers w call ≡ AllGranted → Matches w.head.headers w.head.buckets registry keys (count_in keys) guards
   all_match =

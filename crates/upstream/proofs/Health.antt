@@ -1,13 +1,14 @@
 -- 000 and 001: what a key comes to, said of the call's answer (`publication_header`, `poisoned`, `bucket`). An attempt reads header, health and bucket
 -- first (`Resolve`); document 02, L3, has it read the health again after the third boundary, when it has the cell.
 use Prim.Native.Nat.{ℕ, zero, suc, ◌+◌, ◌≤◌, ◌<◌}
-use Rattle.std.specs.Prelude.{◌≡◌, List, [], ◌∷◌, true, ◌↔◌, ◌⊎◌, eqb}
+use Rattle.std.specs.Prelude.{◌≡◌, List, [], ◌∷◌, true, ◌↔◌, ◌⊎◌, eqb, Ok}
 use Rattle.std.proofs.Math.Path.{refl, sym, ap, subst}
 use Rattle.std.proofs.Common.{◌∙◌, arith}
 use Rattle.std.proofs.Math.Logic.{inl, inr}
 use Rattle.std.proofs.Math.Decide.{dec_lt}
 use borrow.Author.Tests.{eqb-true, eq-eqb, ne_eqb, ltb-true, lt-ltb, not-true}
 use Rattle.std.proofs.Math.ListN.{get_or}
+use Rattle.types.specs.Checks.{Found}
 use Rattle.choice.specs.Pick.{if_both}
 use Rattle.model.specs.Log.{Made}
 use Rattle.model.specs.Arena.{last_serial, serial_remains, cell_number, header_of, is_poisoned, hold_of, hold_in, holds_of, bit_at, owner_at, waiters_at, set_cell, state_at}
@@ -18,9 +19,7 @@ use Rattle.model.specs.Lock.{take_in, take_of, late_stage_of, after_take, second
 use Rattle.model.specs.Calls.{given, starting}
 use Rattle.types.specs.declared.Answer.{Answer}
 use Rattle.types.specs.declared.Answer.TheVariants.{Granted, Refused}
-use Rattle.types.specs.declared.Check.TheVariants.{Fine}
 use Rattle.types.specs.declared.Flow.{Flow}
-use Rattle.types.specs.declared.Found.{Found}
 use Rattle.types.specs.declared.Lease.{Lease}
 use Rattle.types.specs.declared.Locked.{Locked}
 use Rattle.types.specs.declared.Outcome.{Outcome}
@@ -286,7 +285,7 @@ module _ (w : Authority) (registry script : List ℕ) (place : ℕ) (held : List
   found_find = finds w.head.headers w.head.buckets w.health registry binding bucket
 
   -- self.poisoned(header), of the call: 7 with the key's header, exactly if its health is not 0 at the first reading or at the second
-  pub poisoned_n1 : first (rules w call) ≡ Fine → (h : ℕ)
+  pub poisoned_n1 : first (rules w call) ≡ Ok tt → (h : ℕ)
       → (answers w call ≡ Refused (Poisoned h)) ↔ ((h ≡ header) × (header < w.head.headers) × ((byte ≡ 0 → ⊥) ⊎ ((bucket < w.head.buckets) × ReadAgain)))
   poisoned_n1 f h = (
     by_checks (λ m. m.seen.1.answer ≡ Refused (Poisoned h) → (h ≡ header) × (header < w.head.headers) × ((byte ≡ 0 → ⊥) ⊎ ((bucket < w.head.buckets) × ReadAgain))) w call
@@ -303,7 +302,7 @@ module _ (w : Authority) (registry script : List ℕ) (place : ℕ) (held : List
   ReadsPoison =
       SickWithin acting w.head.buckets registry binding bucket attempt_limit 0 begun w.table w.health
 
-  pub poisoned_many : first (rules w many) ≡ Fine → (h : ℕ) → (answers w many ≡ Refused (Poisoned h)) ↔ ((h ≡ header) × ReadsPoison)
+  pub poisoned_many : first (rules w many) ≡ Ok tt → (h : ℕ) → (answers w many ≡ Refused (Poisoned h)) ↔ ((h ≡ header) × ReadsPoison)
   poisoned_many f h = (
     by_checks (λ m. m.seen.1.answer ≡ Refused (Poisoned h) → (h ≡ header) × ReadsPoison) w many (λ r e q. absurd (fine_fault f e))
         (λ e k q. retry_tells acting w.head.buckets registry binding bucket attempt_limit 0 none_yet begun w.table w.health h (settled_poisoned _ _ h q)),
@@ -314,7 +313,7 @@ module _ (w : Authority) (registry script : List ℕ) (place : ℕ) (held : List
   )
 
   -- and the header is not healthy in what the call leaves
-  pub poisoned_left : first (rules w many) ≡ Fine → (h : ℕ) → answers w many ≡ Refused (Poisoned h) → get_or (leaves w many).health h 0 ≡ 0 → ⊥
+  pub poisoned_left : first (rules w many) ≡ Ok tt → (h : ℕ) → answers w many ≡ Refused (Poisoned h) → get_or (leaves w many).health h 0 ≡ 0 → ⊥
   poisoned_left f h =
       by_checks (λ m. m.seen.1.answer ≡ Refused (Poisoned h) → get_or m.seen.0.health h 0 ≡ 0 → ⊥) w many (λ r e q. absurd (fine_fault f e))
       (λ e k q. retry_leaves acting w.head.buckets registry binding bucket attempt_limit 0 none_yet begun w.table w.health h (settled_poisoned _ _ h q))
@@ -345,7 +344,7 @@ module _ (w : Authority) (registry script : List ℕ) (place : ℕ) (held : List
   is_eight (bad_bucket p q s) l g b = refl
   is_eight (at p q s) l g b = absurd (omega arith)
 
-  pub header_answer : first (rules w call) ≡ Fine → (h : ℕ) → (answers w call ≡ Refused (BadHeader h)) ↔ ((h ≡ header) × (w.head.headers ≤ header))
+  pub header_answer : first (rules w call) ≡ Ok tt → (h : ℕ) → (answers w call ≡ Refused (BadHeader h)) ↔ ((h ≡ header) × (w.head.headers ≤ header))
   unfolding attempt_of
   header_answer f h = (
     by_checks (λ m. m.seen.1.answer ≡ Refused (BadHeader h) → (h ≡ header) × (w.head.headers ≤ header)) w call
@@ -354,7 +353,7 @@ module _ (w : Authority) (registry script : List ℕ) (place : ℕ) (held : List
         (λ e k. ap (answer_of w.head.boot) (is_six found_find y.1) ∙ ap (λ (n : ℕ). Refused (BadHeader n)) (sym y.0)),
   )
 
-  pub bucket_e1 : first (rules w call) ≡ Fine → (b : ℕ)
+  pub bucket_e1 : first (rules w call) ≡ Ok tt → (b : ℕ)
       → (answers w call ≡ Refused (InvalidBucket b)) ↔ ((b ≡ bucket) × (header < w.head.headers) × (byte ≡ 0) × (w.head.buckets ≤ bucket))
   unfolding attempt_of
   bucket_e1 f b = (
@@ -365,7 +364,7 @@ module _ (w : Authority) (registry script : List ℕ) (place : ℕ) (held : List
   )
 
   -- bucket_request_valid: the bucket is too large, or its cell is in the map; else 6
-  pub bucket_r1 : first (rules w call) ≡ Fine → (bucket_request_valid w.head.buckets header bucket w → ⊥) → answers w call ≡ Refused (BadHeader header)
+  pub bucket_r1 : first (rules w call) ≡ Ok tt → (bucket_request_valid w.head.buckets header bucket w → ⊥) → answers w call ≡ Refused (BadHeader header)
   bucket_r1 f n = (header_answer f header).1 (refl, go (dec_lt header w.head.headers) (dec_lt bucket w.head.buckets))
     where
       go : Dec (header < w.head.headers) → Dec (bucket < w.head.buckets) → w.head.headers ≤ header
@@ -379,7 +378,7 @@ module _ (w : Authority) (registry script : List ℕ) (place : ℕ) (held : List
       (guards_transactional_e1 w registry script place held binding bucket l e, guards_transactional_e2 w registry script place held binding bucket l e)
 
   -- 001: r.is_some() <==> bucket < self.bucket_count(), and r.unwrap() == (header, bucket)
-  pub guards_bucket_e1 : first (rules w call) ≡ Fine → (b : ℕ)
+  pub guards_bucket_e1 : first (rules w call) ≡ Ok tt → (b : ℕ)
       → (answers w call ≡ Refused (InvalidBucket b)) ↔ ((b ≡ bucket) × (header < w.head.headers) × (byte ≡ 0) × (w.head.buckets ≤ bucket))
   guards_bucket_e1 = bucket_e1
 

@@ -1,10 +1,9 @@
 -- Document 01's limits where upstream has none: more than 64 held leases, a script of more than 32,768 steps, more than 64 keys with the held leases.
-use Rattle.std.specs.Prelude.{ℕ, ◌+◌, ◌*◌, ◌%◌, ◌<◌, ◌≡◌, refl, List, [], ◌∷◌, Bool, true, false, not, ◌||◌, ltb, eqb, length}
+use Rattle.std.specs.Prelude.{ℕ, ◌+◌, ◌*◌, ◌%◌, ◌<◌, ◌≡◌, refl, List, [], ◌∷◌, Bool, true, false, not, ◌||◌, ltb, eqb, length, Err}
 use Rattle.std.proofs.Common.{lt-ltb}
 use Rattle.model.specs.Refusals.{Rule, first}
 use Rattle.model.specs.Checks.{lease_count, is_odd, count_in, bad_shape, bad_health, bad_registry, bad_script, bad_held, bad_held_length, too_many_keys, script_rules, lock_rules, bucket_rules, release_rules, locks_rules}
 use Rattle.model.specs.Foreign.{steps_in}
-use Rattle.types.specs.declared.Check.TheVariants.{Fault}
 use Rattle.types.specs.declared.Refusal.TheVariants.{BadScript, BadHeld, TooMany}
 use Rattle.history.specs.Judged.{refused_so}
 use Rattle.history.specs.Items.{environment, try_lock, transactional, acquire_bucket, release_all, acquire_locks, unchanged, perform, Clear}
@@ -25,11 +24,11 @@ many_keys held keys grants l = rw (lt-ltb 64 (lease_count held + count_in keys) 
 
 module _ (w : Authority) (script : List ℕ) (place : ℕ) (held : List ℕ) where
   held_over : (ys : List Rule) → Scripted w script place → 64 < lease_count held
-      → first (bad_shape w.head w.table ∷ bad_health w.head w.health ∷ bad_script script place ∷ bad_held_length held ∷ ys) ≡ Fault (BadHeld (lease_count held))
+      → first (bad_shape w.head w.table ∷ bad_health w.head w.health ∷ bad_script script place ∷ bad_held_length held ∷ ys) ≡ Err (BadHeld (lease_count held))
   held_over ys c l = first_after (bad_shape w.head w.table ∷ bad_health w.head w.health ∷ bad_script script place ∷ []) (bad_held_length held) ys c (over held l)
 
   script_over : (ys : List Rule) → WholeArena w → 32768 < steps_in script
-      → first (bad_shape w.head w.table ∷ bad_health w.head w.health ∷ bad_script script place ∷ ys) ≡ Fault BadScript
+      → first (bad_shape w.head w.table ∷ bad_health w.head w.health ∷ bad_script script place ∷ ys) ≡ Err BadScript
   script_over ys c l = first_after (bad_shape w.head w.table ∷ bad_health w.head w.health ∷ []) (bad_script script place) ys c (long script place l)
 
   pub environment_limit : Scripted w script place → 64 < lease_count held → perform w (environment script place held) ≡ unchanged w (environment script place held) (BadHeld (lease_count held))
@@ -56,11 +55,11 @@ release_all_script w script place leases c l = refused_so w (release_all script 
 
 module _ (w : Authority) (registry script : List ℕ) (place : ℕ) (held : List ℕ) where
   keyed_held_over : (ys : List Rule) → Keyed w registry script place → 64 < lease_count held
-      → first (bad_shape w.head w.table ∷ bad_health w.head w.health ∷ bad_registry registry ∷ bad_script script place ∷ bad_held_length held ∷ ys) ≡ Fault (BadHeld (lease_count held))
+      → first (bad_shape w.head w.table ∷ bad_health w.head w.health ∷ bad_registry registry ∷ bad_script script place ∷ bad_held_length held ∷ ys) ≡ Err (BadHeld (lease_count held))
   keyed_held_over ys c l = first_after (bad_shape w.head w.table ∷ bad_health w.head w.health ∷ bad_registry registry ∷ bad_script script place ∷ []) (bad_held_length held) ys c (over held l)
 
   keyed_script_over : (ys : List Rule) → WholeKeyed w registry → 32768 < steps_in script
-      → first (bad_shape w.head w.table ∷ bad_health w.head w.health ∷ bad_registry registry ∷ bad_script script place ∷ ys) ≡ Fault BadScript
+      → first (bad_shape w.head w.table ∷ bad_health w.head w.health ∷ bad_registry registry ∷ bad_script script place ∷ ys) ≡ Err BadScript
   keyed_script_over ys c l = first_after (bad_shape w.head w.table ∷ bad_health w.head w.health ∷ bad_registry registry ∷ []) (bad_script script place) ys c (long script place l)
 
   module _ (binding bucket : ℕ) where

@@ -1,6 +1,6 @@
 -- 000: `read_permission`, `competing_acquire_is_excluded` and `release_then_handoff`: the calls on one lease.
 -- ---- release and take again: what it comes to; F says that no check of the call applies
-use Rattle.std.specs.Prelude.{ℕ, ◌≤◌, ◌<◌, ◌≡◌, [], ◌∷◌}
+use Rattle.std.specs.Prelude.{ℕ, ◌≤◌, ◌<◌, ◌≡◌, [], ◌∷◌, Ok}
 use Rattle.std.proofs.Math.Path.{refl, ap}
 use Rattle.std.proofs.Common.{sym, ◌∙◌, subst, inl, arith}
 use borrow.Author.Tests.{not-false}
@@ -11,7 +11,6 @@ use Rattle.model.specs.Refusals.{first}
 use Rattle.model.specs.Checks.{lease_rules}
 use Rattle.types.specs.declared.Answer.{Answer}
 use Rattle.types.specs.declared.Answer.TheVariants.{Done, Cell, Granted, Busy, Refused}
-use Rattle.types.specs.declared.Check.TheVariants.{Fine}
 use Rattle.types.specs.declared.Hold.{Hold}
 use Rattle.types.specs.declared.Lease.{Lease}
 use Rattle.types.specs.declared.Reason.TheVariants as reason
@@ -102,7 +101,7 @@ module _ (w : Authority) (l : Lease) where
   -- ---- `competing_acquire_is_excluded`
 
   abbrev CheckedCompeting : Type 0
-  CheckedCompeting = first (rules w (competing_acquire l)) ≡ Fine
+  CheckedCompeting = first (rules w (competing_acquire l)) ≡ Ok tt
 
   competing : Tries CheckedCompeting w l.cell (answers w (competing_acquire l)) (leaves w (competing_acquire l))
   unfolding lease_rules
@@ -138,7 +137,7 @@ module _ (w : Authority) (l : Lease) where
   -- ---- `release_then_handoff`
 
   abbrev Checked : Type 0
-  Checked = first (rules w (release_then_handoff l)) ≡ Fine
+  Checked = first (rules w (release_then_handoff l)) ≡ Ok tt
 
   abbrev result : Answer
   result = answers w (release_then_handoff l)

@@ -1,14 +1,13 @@
 -- Upstream's premises, in the words here, are enough: for each list of checks, that none of it applies. Beside
 -- upstream's premises stands what upstream's types see to: the arena is one, and the lists, the script and the registry
 -- are well formed and within document 01's limits.
-use Rattle.std.specs.Prelude.{ℕ, zero, suc, ◌+◌, ◌<◌, ◌≡◌, refl, List, [], ◌∷◌, ◌++◌, Bool, true, false, not, ◌⊎◌, ◌≢◌, length}
+use Rattle.std.specs.Prelude.{ℕ, zero, suc, ◌+◌, ◌<◌, ◌≡◌, refl, List, [], ◌∷◌, ◌++◌, Bool, true, false, not, ◌⊎◌, ◌≢◌, length, Ok}
 use Rattle.std.proofs.Common.{sym, ap, ◌∙◌, subst, inl, inr, arith}
 use Rattle.std.proofs.lemmas.Bool.{lt-leb}
 use Rattle.model.specs.Arena.{cells_of, hold_in, is_in, leases_of, holds_of}
 use Rattle.model.specs.Refusals.{first}
 use Rattle.model.specs.Checks.{count_in, bad_shape, bad_health, bad_registry, bad_script, bad_held, too_many_leases, too_many_keys, bad_binding, bad_bindings, bad_cell, stale_boot, not_held, is_protected, not_releasable, cell_rules, lease_rules, held_cell_rules, held_lease_rules, script_rules, lock_rules, bucket_rules, release_rules, locks_rules}
 use Rattle.model.specs.Lock.{hold_at, no_hold, binding_at}
-use Rattle.types.specs.declared.Check.TheVariants.{Fine}
 use Rattle.types.specs.declared.Hold.{Hold}
 use Rattle.types.specs.declared.Lease.{Lease}
 use Rattle.laws.specs.Lists.{as_many}
@@ -80,12 +79,12 @@ releasable w n earlier (l ∷ ls) o p q d = (
 -- ---- the lists
 
 -- `try_acquire`
-pub cell_passes : (w : Authority) (c : ℕ) → Fits w → contains_key w c → first (cell_rules w.head w.table c) ≡ Fine
+pub cell_passes : (w : Authority) (c : ℕ) → Fits w → contains_key w c → first (cell_rules w.head w.table c) ≡ Ok tt
 unfolding cell_rules
 cell_passes w c s i = clear_fine (bad_shape w.head w.table ∷ bad_cell w.head c ∷ []) (ap not s, cell_clear w c i)
 
 -- `drop_lease`, `read_permission`, `competing_acquire_is_excluded`, `release_then_handoff`
-pub lease_passes : (w : Authority) (l : Lease) → Fits w → valid_at w (lease_key (hold_in l)) → Own w l → authorized w (hold_in l) → first (lease_rules w.head w.table l) ≡ Fine
+pub lease_passes : (w : Authority) (l : Lease) → Fits w → valid_at w (lease_key (hold_in l)) → Own w l → authorized w (hold_in l) → first (lease_rules w.head w.table l) ≡ Ok tt
 unfolding lease_rules
 lease_passes w l s v o a =
     clear_fine (bad_shape w.head w.table ∷ stale_boot w.head 0 l ∷ not_held w.head w.table 0 l ∷ [])
@@ -93,7 +92,7 @@ lease_passes w l s v o a =
 
 -- `acquire_preserving_borrows`
 pub held_cell_passes : (w : Authority) (held : List ℕ) (c : ℕ) → Fits w → Short w held → leases_valid w (holds_of held) → contains_key w c → leases_authorized w (holds_of held)
-    → first (held_cell_rules w.head w.table held c) ≡ Fine
+    → first (held_cell_rules w.head w.table held c) ≡ Ok tt
 unfolding held_cell_rules
 held_cell_passes w held c s b v i p =
     clear_fine (bad_shape w.head w.table ∷ (bad_held w.head w.table held ++ (bad_cell w.head c ∷ [])))
@@ -101,7 +100,7 @@ held_cell_passes w held c s b v i p =
 
 -- `drop_preserving_borrows`, `foreign_release_between_attempts`
 pub held_lease_passes : (w : Authority) (held : List ℕ) (l : Lease) → Fits w → Short w held → leases_valid w (holds_of held) → valid_at w (lease_key (hold_in l)) → Own w l → authorized w (hold_in l) → leases_authorized w (holds_of held)
-    → (held_ids (holds_of held) (hold_in l) → ⊥) → first (held_lease_rules w.head w.table held l) ≡ Fine
+    → (held_ids (holds_of held) (hold_in l) → ⊥) → first (held_lease_rules w.head w.table held l) ≡ Ok tt
 unfolding held_lease_rules
 held_lease_passes w held l s b v u o a p n =
     clear_fine (bad_shape w.head w.table ∷ (bad_held w.head w.table held ++ (stale_boot w.head 0 l ∷ not_held w.head w.table 0 l ∷ is_protected held l ∷ [])))
@@ -109,7 +108,7 @@ held_lease_passes w held l s b v u o a p n =
 
 -- `environment`, `environment_for_borrows`
 pub script_passes : (w : Authority) (script : List ℕ) (place : ℕ) (held : List ℕ) → Scripted w script place → Short w held → leases_valid w (holds_of held) → leases_authorized w (holds_of held)
-    → first (script_rules w.head w.table w.health script place held) ≡ Fine
+    → first (script_rules w.head w.table w.health script place held) ≡ Ok tt
 unfolding script_rules
 script_passes w script place held k b v p =
     clear_fine (bad_shape w.head w.table ∷ bad_health w.head w.health ∷ bad_script script place ∷ bad_held w.head w.table held)
@@ -117,7 +116,7 @@ script_passes w script place held k b v p =
 
 -- `try_lock`, `other_mutex_preserves_leases`
 pub lock_passes : (w : Authority) (script : List ℕ) (place : ℕ) (held : List ℕ) (c : ℕ) → Scripted w script place → Short w held → leases_valid w (holds_of held) → contains_key w c
-    → leases_authorized w (holds_of held) → first (lock_rules w.head w.table w.health script place held c) ≡ Fine
+    → leases_authorized w (holds_of held) → first (lock_rules w.head w.table w.health script place held c) ≡ Ok tt
 unfolding lock_rules script_rules
 lock_passes w script place held c k b v i p =
     clear_fine (bad_shape w.head w.table ∷ bad_health w.head w.health ∷ bad_script script place ∷ (bad_held w.head w.table held ++ (bad_cell w.head c ∷ [])))
@@ -125,7 +124,7 @@ lock_passes w script place held c k b v i p =
 
 -- `transactional_try_lock_bucket`, `acquire_index_bucket`
 pub bucket_passes : (w : Authority) (registry script : List ℕ) (place : ℕ) (held : List ℕ) (binding : ℕ) → Keyed w registry script place → Short w held → leases_valid w (holds_of held)
-    → binding < length registry → leases_authorized w (holds_of held) → first (bucket_rules w.head w.table w.health registry script place held binding) ≡ Fine
+    → binding < length registry → leases_authorized w (holds_of held) → first (bucket_rules w.head w.table w.health registry script place held binding) ≡ Ok tt
 unfolding bucket_rules
 bucket_passes w registry script place held binding k b v i p =
     clear_fine (bad_shape w.head w.table ∷ bad_health w.head w.health ∷ bad_registry registry ∷ bad_script script place
@@ -136,7 +135,7 @@ bucket_passes w registry script place held binding k b v i p =
 pub release_passes : (w : Authority) (script : List ℕ) (place : ℕ) (leases : List ℕ) → Scripted w script place → (too_many_leases leases).applies ≡ false → AllOwn w leases → leases_valid w (holds_of leases)
     → leases_authorized w (holds_of leases)
     → ((i j : ℕ) → i < j → j < length (holds_of leases) → lease_key (hold_at (holds_of leases) i) ≢ lease_key (hold_at (holds_of leases) j))
-    → first (release_rules w.head w.table w.health script place leases) ≡ Fine
+    → first (release_rules w.head w.table w.health script place leases) ≡ Ok tt
 unfolding release_rules is_in
 release_passes w script place leases k b o v p d =
     clear_fine (bad_shape w.head w.table ∷ bad_health w.head w.health ∷ bad_script script place ∷ too_many_leases leases
@@ -149,7 +148,7 @@ release_passes w script place leases k b o v p d =
 -- `acquire_index_locks`, of which document 001 asks `keys_valid` alone; the held list is ours
 pub locks_pass : (w : Authority) (registry script : List ℕ) (place : ℕ) (held keys grants : List ℕ) → Keyed w registry script place → Short w held
     → (too_many_keys held keys grants).applies ≡ false → leases_valid w (holds_of held) → keys_valid registry keys → leases_authorized w (holds_of held)
-    → first (locks_rules w.head w.table w.health registry script place held keys grants) ≡ Fine
+    → first (locks_rules w.head w.table w.health registry script place held keys grants) ≡ Ok tt
 unfolding locks_rules
 locks_pass w registry script place held keys grants k b m v i p =
     clear_fine (bad_shape w.head w.table ∷ bad_health w.head w.health ∷ bad_registry registry ∷ bad_script script place

@@ -1,12 +1,13 @@
 -- 000: `release_all`.
 use Prim.Native.Nat.{ℕ, zero, suc, ◌+◌, ◌≤◌, ◌<◌}
-use Rattle.std.specs.Prelude.{◌≡◌, refl, List, [], ◌∷◌, ◌++◌, map, true, false, not, ◌⊎◌, ◌≢◌, take}
+use Rattle.std.specs.Prelude.{◌≡◌, refl, List, [], ◌∷◌, ◌++◌, map, true, false, not, ◌⊎◌, ◌≢◌, take, Err}
 use Rattle.std.proofs.Common.{sym, ap, ◌∙◌, append-nil, inl, inr, arith}
 use Rattle.std.proofs.Math.Path.{subst}
 use Rattle.std.proofs.Math.Decide.{ℕ_discrete}
 use Rattle.std.proofs.lemmas.Bool.{not-false}
 use Rattle.std.proofs.Math.ListN.{length}
 use Rattle.std.proofs.Math.Seq.{append_snoc}
+use Rattle.types.specs.Checks.{Check}
 use Rattle.model.specs.Log.{Event, by_caller, released}
 use Rattle.model.specs.Arena.{hold_of, hold_in, leases_of, holds_of, is_in, set_cell}
 use Rattle.model.specs.Refusals.{first}
@@ -14,8 +15,6 @@ use Rattle.model.specs.Checks.{lease_count, bad_shape, bad_health, bad_script, t
 use Rattle.model.specs.Foreign.{boundary_of}
 use Rattle.model.specs.Lock.{hold_at, no_hold, give_back_of}
 use Rattle.model.specs.Calls.{given, starting}
-use Rattle.types.specs.declared.Check.{Check}
-use Rattle.types.specs.declared.Check.TheVariants.{Fault}
 use Rattle.types.specs.declared.Flow.{Flow}
 use Rattle.types.specs.declared.Head.{Head}
 use Rattle.types.specs.declared.Hold.{Hold}
@@ -147,7 +146,7 @@ module _ (h : Head) (script : List ℕ) where
 
 not_releasable_dead : (w : Authority) (n : ℕ) (earlier : List Hold) (ls : List Lease) (i : ℕ) → i < length ls
     → Clear (not_releasable w.head w.table n earlier (take i ls)) → Own w (lease_at ls i) → (Live w (hold_in (lease_at ls i)) → ⊥)
-    → first (not_releasable w.head w.table n earlier ls) ≡ Fault (NotHeld (n + i))
+    → first (not_releasable w.head w.table n earlier ls) ≡ Err (NotHeld (n + i))
 unfolding not_releasable
 not_releasable_dead w n earlier [] i l c o d = absurd (omega arith)
 not_releasable_dead w n earlier (k ∷ ls) zero l c o d =
@@ -160,7 +159,7 @@ not_releasable_dead w n earlier (k ∷ ls) (suc i) l c o d =
 
 not_releasable_again : (w : Authority) (n : ℕ) (earlier : List Hold) (ls : List Lease) (i : ℕ) → i < length ls
     → Clear (not_releasable w.head w.table n earlier (take i ls)) → Own w (lease_at ls i) → Live w (hold_in (lease_at ls i))
-    → is_in (hold_in (lease_at ls i)) (earlier ++ map hold_in (take i ls)) ≡ true → first (not_releasable w.head w.table n earlier ls) ≡ Fault (Repeated (n + i))
+    → is_in (hold_in (lease_at ls i)) (earlier ++ map hold_in (take i ls)) ≡ true → first (not_releasable w.head w.table n earlier ls) ≡ Err (Repeated (n + i))
 unfolding not_releasable
 not_releasable_again w n earlier [] i l c o v d = absurd (omega arith)
 not_releasable_again w n earlier (k ∷ ls) zero l c o v d =
@@ -204,7 +203,7 @@ module _ (w : Authority) (script : List ℕ) (place : ℕ) (leases : List ℕ) w
   abbrev UpTo : ℕ → Type 0
   UpTo i = Clear (not_releasable w.head w.table 0 [] (take i named))
 
-  behind : (r : Refusal) → Before → first (not_releasable w.head w.table 0 [] named) ≡ Fault r
+  behind : (r : Refusal) → Before → first (not_releasable w.head w.table 0 [] named) ≡ Err r
       → perform w (release_all script place leases) ≡ unchanged w (release_all script place leases) r
   unfolding release_rules
   behind r c e =
@@ -236,7 +235,7 @@ module _ (w : Authority) (script : List ℕ) (place : ℕ) (leases : List ℕ) w
   dead i l b u o n =
       behind (NotHeld i) b
       (not_releasable_dead w 0 [] named i (omega (arith, as_many leases, l)) u o (subst (λ (k : Hold). Live w k → ⊥) (hold_at_lem leases i) n)
-      ∙ ap {B = Check} (λ n. Fault (NotHeld n)) (plus_zero i))
+      ∙ ap {B = Check} (λ n. Err (NotHeld n)) (plus_zero i))
 
   -- valid(old(authority)): 12 with the position, where a lease's cell is damaged
   pub release_all_r1 : (i : ℕ) → i < length ls → Before → UpTo i → Own w (lease_at named i) → (ValidCell (next_serial w) (cells w (hold_at ls i).cell) → ⊥)
@@ -257,7 +256,7 @@ module _ (w : Authority) (script : List ℕ) (place : ℕ) (leases : List ℕ) w
       (not_releasable_again w 0 [] named j (omega (arith, as_many leases, q)) u o (subst (Live w) (hold_at_lem leases j) (cell_live w (hold_at ls j) y v))
       (subst (λ (ks : List Hold). In ks (hold_in (lease_at named j))) (take_holds leases j)
       (subst (In (take j ls)) (same ∙ hold_at_lem leases j) (in_take ls j i no_hold p (omega arith))))
-      ∙ ap {B = Check} (λ n. Fault (Repeated n)) (plus_zero j))
+      ∙ ap {B = Check} (λ n. Err (Repeated n)) (plus_zero j))
 
   pub release_all_e1 : keeps_valid w final
   release_all_e1 = trace_valid_at went

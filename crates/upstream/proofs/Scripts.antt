@@ -2,8 +2,9 @@
 -- with the protected leases live, which every call tests too; `valid`, as upstream asks it of the whole table, is not asked: cells may be damaged.
 use Prim.Native.Nat.{ℕ, zero, suc, ◌+◌, ◌-◌, ◌%◌, ◌<◌}
 use Rattle.std.proofs.Math.Path.{◌≡◌, subst}
-use Rattle.std.specs.Prelude.{refl, List, [], ◌∷◌, ◌++◌, ◌⊎◌, eqb, get_or}
+use Rattle.std.specs.Prelude.{refl, List, [], ◌∷◌, ◌++◌, ◌⊎◌, eqb, get_or, Err}
 use Rattle.std.proofs.Common.{sym, ap, inl, inr, arith}
+use Rattle.types.specs.Checks.{Found}
 use Rattle.model.specs.Log.{Made, Event, by_caller, released}
 use Rattle.model.specs.Arena.{last_serial, cells_of, cell_number, header_of, is_poisoned, lease_of, hold_of, hold_in, waiters_at, is_in}
 use Rattle.model.specs.Answers.{kind_of}
@@ -11,8 +12,6 @@ use Rattle.model.specs.Foreign.{steps_in, kind_at, place_at, number_at, run_step
 use Rattle.model.specs.Lock.{take_of, late_stage_of, after_take, second_stage_of, lock_of, outcome_of, answer_of, attempt_at, attempt_of, spin_of, pause_of, is_busy, retry_of, run_of}
 use Rattle.model.specs.Calls.{given, acquire_of}
 use Rattle.types.specs.declared.Flow.{Flow}
-use Rattle.types.specs.declared.Found.{Found}
-use Rattle.types.specs.declared.Found.TheVariants as found
 use Rattle.types.specs.declared.Head.{Head}
 use Rattle.types.specs.declared.Hold.{Hold}
 use Rattle.types.specs.declared.Lease.{Lease}
@@ -208,7 +207,7 @@ module _ (h : Head) (script : List ℕ) where
   unfolding attempt_of
   attempt_goes ps registry binding bucket r t g k = go (finds h.headers h.buckets g registry binding bucket)
     where
-      none : {x : _} → Attempts (In ps) (world_at h r.flow.next t g) (attempt_at (found.Fault x) (given h script ps) h.buckets r t g).seen
+      none : {x : _} → Attempts (In ps) (world_at h r.flow.next t g) (attempt_at (Err x) (given h script ps) h.buckets r t g).seen
       none = record { goes = stays k.sized; gain = λ l e. let q : ◌≡◌ {A = ℕ} 0 1 = cc in absurd (omega arith) }
 
       go : {x : Found} → Finds h.headers h.buckets g registry binding bucket x

@@ -1,6 +1,7 @@
 -- 000: `try_acquire`, and the compare-and-set inside it (`Atomics::compare_exchange`).
 -- ---- what one `try_acquire` comes to, whatever the table holds; F says that no check of the call applies
-use Rattle.std.specs.Prelude.{ℕ, ◌+◌, ◌≤◌, ◌<◌, ◌≡◌, refl, true, ◌↔◌, ◌⊎◌, length}
+use Rattle.types.specs.Checks.{Check}
+use Rattle.std.specs.Prelude.{ℕ, ◌+◌, ◌≤◌, ◌<◌, ◌≡◌, refl, true, ◌↔◌, ◌⊎◌, length, Ok, Err}
 use Rattle.std.proofs.Common.{ap, ◌∙◌, inl, inr, arith, ltb-true, ltb-false, leb-false, le-leb}
 use mathlib.Core.List.{List, [], ◌∷◌}
 use Rattle.std.proofs.Math.Bool.{not}
@@ -14,7 +15,6 @@ use Rattle.model.specs.Lock.{take_in, take_of, outcome_of, answer_of}
 use Rattle.model.specs.Calls.{acquire_of}
 use Rattle.types.specs.declared.Answer.{Answer}
 use Rattle.types.specs.declared.Answer.TheVariants.{Granted, Busy, Refused}
-use Rattle.types.specs.declared.Check.TheVariants.{Fine, Fault}
 use Rattle.types.specs.declared.Hold.{Hold}
 use Rattle.types.specs.declared.Lease.{Lease}
 use Rattle.types.specs.declared.Reason.{Reason}
@@ -169,7 +169,7 @@ pub observed : (w v : Authority) → v ≡ w → step w v Observe
 observed w v e = rw e (record { same = record { same_keys = refl; each = λ k i. refl }; stays = refl })
 
 -- two checks that cannot both be
-pub fine_fault : {k : _} {r : Refusal} → k ≡ Fine → k ≡ Fault r → ⊥
+pub fine_fault : {k : Check} {r : Refusal} → k ≡ Ok tt → k ≡ Err r → ⊥
 fine_fault p q = let z : ◌≡◌ {A = ℕ} 0 1 = cc in omega arith
 
 -- ---- `try_acquire`
@@ -182,7 +182,7 @@ module _ (w : Authority) (c : Key) where
   final = leaves w (try_acquire c)
 
   abbrev Checked : Type 0
-  Checked = first (rules w (try_acquire c)) ≡ Fine
+  Checked = first (rules w (try_acquire c)) ≡ Ok tt
 
   pub tried : Tries Checked w c result final
   unfolding cell_rules

@@ -1,5 +1,5 @@
 -- 000: `try_lock` and `other_mutex_preserves_leases`, which are one definition here.
-use Rattle.std.specs.Prelude.{ℕ, ◌≡◌, refl, List, [], ◌∷◌, false}
+use Rattle.std.specs.Prelude.{ℕ, ◌≡◌, refl, List, [], ◌∷◌, false, Ok}
 use Rattle.std.proofs.Math.Path.{ap}
 use Rattle.std.proofs.Common.{arith}
 use borrow.Author.Tests.{not-false, leb-false, eq-eqb}
@@ -12,7 +12,6 @@ use Rattle.model.specs.Lock.{lock_of, second_stage_of, take_of, answer_of}
 use Rattle.model.specs.Calls.{given}
 use Rattle.types.specs.declared.Answer.{Answer}
 use Rattle.types.specs.declared.Answer.TheVariants.{Granted, Refused}
-use Rattle.types.specs.declared.Check.TheVariants.{Fine}
 use Rattle.types.specs.declared.Flow.{Flow}
 use Rattle.types.specs.declared.Lease.{Lease}
 use Rattle.types.specs.declared.Refusal.TheVariants.{BadHeld, InvalidBucket, Damaged}
@@ -90,7 +89,7 @@ module _ (w : Authority) (script : List ℕ) (place : ℕ) (held : List ℕ) (c 
       record { trace = m.goes.trace; gain = λ l e. m.gain (hold_in l) (answer_granted _ _ l e) })
 
   -- valid(old(authority)): 9, where the cell is damaged when it comes to the compare-and-set
-  pub try_lock_r1 : first (rules w (try_lock script place held c)) ≡ Fine → SwapDamaged w script place held c
+  pub try_lock_r1 : first (rules w (try_lock script place held c)) ≡ Ok tt → SwapDamaged w script place held c
       → (result ≡ Refused (Damaged c)) × (final ≡ at_the_swap w script place held)
   try_lock_r1 f d =
       by_checks (λ m. (m.seen.1.answer ≡ Refused (Damaged c)) × (m.seen.0 ≡ at_the_swap w script place held)) w (try_lock script place held c) (λ r e. absurd (fine_fault f e))

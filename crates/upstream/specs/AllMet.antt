@@ -8,7 +8,6 @@ use Rattle.model.specs.Checks.{not_live, not_releasable, bad_bindings, held_leas
 use Rattle.model.specs.Foreign.{boundary_of, run_steps_of}
 use Rattle.model.specs.Lock.{hold_at}
 use Rattle.types.specs.declared.Answer.TheVariants.{Refused}
-use Rattle.types.specs.declared.Check.TheVariants.{Fine}
 use Rattle.types.specs.declared.Refusal.TheVariants.{Damaged}
 use Rattle.history.specs.World.{world_of, Live}
 use Rattle.history.specs.Items.{drop_preserving, try_lock, transactional, release_all, acquire_locks, rules}

@@ -11,6 +11,7 @@ use Rattle.std.proofs.Math.Decide.{ℕ_discrete, dec_lt}
 use Rattle.std.proofs.lemmas.Bool.{lt-leb}
 use Rattle.std.proofs.Math.ListN.{get_or-append}
 use Rattle.std.proofs.Math.Seq.{get_or-append_seam}
+use Rattle.types.specs.Checks.{Check}
 use Rattle.model.specs.Arena.{cell_number, hold_in, holds_of, words_of}
 use Rattle.model.specs.Answers.{kind_of}
 use Rattle.model.specs.Refusals.{Rule, first}
@@ -19,8 +20,6 @@ use Rattle.model.specs.Foreign.{Setting, protecting}
 use Rattle.model.specs.Lock.{no_hold, hold_at, binding_at, bucket_at, attempt_limit, none_yet, retry_of, rollback_of, after_key, locks_of, Locks}
 use Rattle.model.specs.Calls.{given, starting}
 use Rattle.types.specs.declared.Answer.TheVariants.{Granted, AllGranted}
-use Rattle.types.specs.declared.Check.{Check}
-use Rattle.types.specs.declared.Check.TheVariants.{Fault}
 use Rattle.types.specs.declared.Hold.{Hold}
 use Rattle.types.specs.declared.Lease.{Lease}
 use Rattle.types.specs.declared.Outcome.{Outcome}

@@ -3,15 +3,14 @@
 use Prim.Native.Nat.{ℕ, zero, suc, ◌+◌, ◌≤◌, ◌<◌}
 use Rattle.std.proofs.Math.Path.{◌≡◌}
 use Rattle.std.proofs.Common.{sym, ap, ◌∙◌, arith, leb-true, leb-false, eqb-true, eq-eqb}
-use Rattle.std.specs.Prelude.{List, not, leb, eqb, get_or}
+use Rattle.std.specs.Prelude.{List, not, leb, eqb, get_or, Ok, Err}
 use Rattle.std.proofs.lemmas.Bool.{not-true, not-false}
+use Rattle.types.specs.Checks.{Found}
 use Rattle.model.specs.Log.{Made}
 use Rattle.model.specs.Arena.{cell_number, hold_of, hold_in, lease_under}
 use Rattle.model.specs.Foreign.{Setting}
 use Rattle.model.specs.Answers.{kind_of}
 use Rattle.model.specs.Lock.{answer_of, find_of, attempt_at, attempt_of, pause_of, is_busy, retry_of, settled}
-use Rattle.types.specs.declared.Found.{Found}
-use Rattle.types.specs.declared.Found.TheVariants as found
 use Rattle.types.specs.declared.Hold.{Hold}
 use Rattle.types.specs.declared.Lease.{Lease}
 use Rattle.types.specs.declared.Answer.TheVariants.{Granted}
@@ -29,13 +28,13 @@ use Rattle.history.specs.Steps.{With}
 
 pub data Finds (headers buckets : ℕ) (g registry : List ℕ) (binding bucket : ℕ) : Found → Type 0 where
   bad_header : headers ≤ get_or registry binding 0
-      → Finds headers buckets g registry binding bucket (found.Fault (BadHeader (get_or registry binding 0)))
+      → Finds headers buckets g registry binding bucket (Err (BadHeader (get_or registry binding 0)))
   poisoned : get_or registry binding 0 < headers → (get_or g (get_or registry binding 0) 0 ≡ 0 → ⊥)
-      → Finds headers buckets g registry binding bucket (found.Fault (Poisoned (get_or registry binding 0)))
+      → Finds headers buckets g registry binding bucket (Err (Poisoned (get_or registry binding 0)))
   bad_bucket : get_or registry binding 0 < headers → get_or g (get_or registry binding 0) 0 ≡ 0 → buckets ≤ bucket
-      → Finds headers buckets g registry binding bucket (found.Fault (InvalidBucket bucket))
+      → Finds headers buckets g registry binding bucket (Err (InvalidBucket bucket))
   at : get_or registry binding 0 < headers → get_or g (get_or registry binding 0) 0 ≡ 0 → bucket < buckets
-      → Finds headers buckets g registry binding bucket (found.At (cell_number buckets (get_or registry binding 0) bucket))
+      → Finds headers buckets g registry binding bucket (Ok (cell_number buckets (get_or registry binding 0) bucket))
 
 pub finds : (headers buckets : ℕ) (g registry : List ℕ) (binding bucket : ℕ) → Finds headers buckets g registry binding bucket (find_of headers buckets g registry binding bucket)
 unfolding find_of

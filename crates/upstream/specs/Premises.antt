@@ -1,14 +1,13 @@
 -- The words of the contracts' records that are not upstream's. A premise on what a call is given says that no check of
 -- the call applies up to a place, in the order of docs/REFERENCE.md. docs/CONTRACTS.md has them as a table, with the
 -- refusal that answers where one fails.
-use Rattle.std.specs.Prelude.{ℕ, ◌≤◌, ◌<◌, ◌≡◌, List, [], ◌∷◌, true, false, length, get_or, take}
+use Rattle.std.specs.Prelude.{ℕ, ◌≤◌, ◌<◌, ◌≡◌, List, [], ◌∷◌, true, false, length, get_or, take, Ok}
 use Rattle.model.specs.Arena.{lease_of, leases_of, holds_of, waiters_at, shape_fits}
 use Rattle.model.specs.Refusals.{first}
 use Rattle.model.specs.Checks.{bad_shape, bad_health, bad_registry, bad_script, bad_held, bad_held_length, too_many_leases, too_many_keys, not_releasable}
 use Rattle.model.specs.Foreign.{flow_of, boundary_of}
 use Rattle.model.specs.Lock.{hold_at}
 use Rattle.model.specs.Calls.{given}
-use Rattle.types.specs.declared.Check.TheVariants.{Fine}
 use Rattle.types.specs.declared.Flow.{Flow}
 use Rattle.types.specs.declared.Lease.{Lease}
 use Rattle.history.specs.World.{Live}
@@ -48,7 +47,7 @@ AllOwn a words = (i : ℕ) → i < length (leases_of words) → Own a (lease_at 
 
 -- no check of the call applies
 abbrev pub Passes : Authority → Call → Type 0
-Passes w k = first (rules w k) ≡ Fine
+Passes w k = first (rules w k) ≡ Ok tt
 
 -- head and table have the arena's shape
 abbrev pub Fits : Authority → Type 0

@@ -1,8 +1,7 @@
 -- The two lines of a change, by the bytes at the front of a text: no search for a line's end, no line printed to be
 -- compared.
-use Rattle.std.specs.Prelude.{◌≡◌, ℕ, suc, ◌+◌, ◌-◌, ◌*◌, ◌%◌, ◌^◌, ◌<◌, ◌≤◌, Bool, true, false, ltb, ◌≢◌, List, [], ◌∷◌, length, take, drop, ◌==◌, nat_lt, slice_index, slice_index_or, refl, if◌then◌else◌}
+use Rattle.std.specs.Prelude.{◌≡◌, ℕ, suc, ◌+◌, ◌-◌, ◌*◌, ◌%◌, ◌^◌, ◌<◌, ◌≤◌, Bool, true, false, ltb, ◌≢◌, List, [], ◌∷◌, length, take, drop, ◌==◌, nat_lt, slice_index, slice_index_or, refl, if◌then◌else◌, Option, Some, None}
 use Rattle.std.proofs.Common.{sym, ap, ◌∙◌, arith, length-take-le, ltb-true, ltb-false, lt-ltb, le-ltb, eq-eqb, ne_eqb, eqb-true}
-use Rattle.std.proofs.Math.Nat.{pow-le-pow_right}
 use Rattle.std.proofs.Math.ListN.{length-drop}
 use Rattle.std.proofs.Math.Seq.{get_or-take, get_or-drop}
 use Rattle.std.proofs.lemmas.Bool.{eqb-false}
@@ -168,21 +167,6 @@ module _ (text : List ℕ) (at : ℕ) where
     pub digits : digits_in (drop i text) + (i - (at + 1)) ≡ digits_in (drop (at + 1) text)
     pub line : before 10 (drop i text) + (i - (at + 1)) ≡ before 10 (drop (at + 1) text)
 
-  pub walk_start : at < length text → Walked 0 (at + 1)
-  walk_start h = record {
-    begun = omega arith;
-    within = omega arith;
-    small = let z : at + 1 - (at + 1) ≡ 0 = omega arith in rw z (omega arith);
-    value = refl;
-    digits = omega arith;
-    line = omega arith;
-  }
-
-  pub walk_small : (t i : ℕ) → Walked t i → i ≤ at + 6 → t < 100000
-  walk_small t i w h =
-      let q : 10 ^ (i - (at + 1)) ≤ 10 ^ 5 = pow-le-pow_right {n = 10} (omega arith) {i = i - (at + 1)} {j = 5} (omega arith) in
-      omega (arith, w.small)
-
   pub walk_turn : (t i : ℕ) → Walked t i → i < length text → is_digit (slice_index text i) ≡ true
       → Walked (10 * t + (slice_index text i - 48)) (i + 1)
   walk_turn t i w h e =
@@ -290,17 +274,15 @@ walk_known text at t i w h p e =
     let n = walk_inside text at t i w h p in
     walk_end text at t i w n.0 n.1 d.mark (λ z. d.proper (first_at text at ∙ z)) e
 
--- no time line
-abbrev pub no_time : Time
-no_time = record { value = 0; behind = 0 }
-
--- what a time line was read to: its time, and where the next line begins
+-- a time line that was read: its time, and where the next line begins
 pub record Stamped (text : List ℕ) (at : ℕ) (s : Time) : Type 0 where
   pub told : s.value ≡ time_front (drop at text)
-  pub next : 0 < s.value → (s.behind ≡ at + before 10 (drop at text) + 1) × (s.behind ≤ length text)
+  pub next : (s.behind ≡ at + before 10 (drop at text) + 1) × (s.behind ≤ length text)
 
-pub stamped_none : (text : List ℕ) (at : ℕ) (s : Time) → s ≡ no_time → 0 ≡ time_front (drop at text) → Stamped text at s
-stamped_none text at s e f = rw e (record { told = f; next = (λ h. absurd (omega arith)) })
+-- what stands there: no time line, or one
+abbrev pub TimeAt : List ℕ → ℕ → Option Time → Type 0
+TimeAt text at None = 0 ≡ time_front (drop at text)
+TimeAt text at (Some s) = Stamped text at s
 
 -- ---- a change line
 

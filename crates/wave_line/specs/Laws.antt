@@ -1,24 +1,37 @@
 -- Laws for the steps: lines compared, and what a stage changes.
-use Rattle.std.specs.Prelude.{◌≡◌, ℕ, suc, ◌+◌, ◌-◌, ◌<◌, ◌≤◌, Bool, true, false, ◌&&◌, ltb, leb, ◌≢◌, List, [], ◌∷◌, ◌++◌, length, take, drop, ◌==◌, nat_eq, nat_le, nat_lt, slice_index, refl, if◌then◌else◌}
-use Rattle.std.proofs.Common.{sym, ap, ◌∙◌, append_assoc, append-nil, arith, add-one, length-append, drop_of_length-le, take_at, drop-cons, ltb-true, ltb-false, lt-ltb, le-ltb, le-leb, eq-eqb, ne_eqb, eqb-true}
+use Rattle.std.specs.Prelude.{◌≡◌, ℕ, suc, ◌+◌, ◌-◌, ◌<◌, ◌≤◌, Bool, true, false, ◌&&◌, ltb, leb, ◌≢◌, List, [], ◌∷◌, ◌++◌, length, take, drop, ◌==◌, nat_eq, nat_le, nat_lt, slice_index, refl, if◌then◌else◌, Err, Some, None}
+use Rattle.std.proofs.Common.{sym, ap, ◌∙◌, append_assoc, append-nil, arith, length-append, take_at, ltb-true, ltb-false, lt-ltb, le-ltb, le-leb, eq-eqb, ne_eqb, eqb-true}
 use Rattle.std.proofs.lemmas.List.Edits.{sets, sets-eq}
 use Rattle.std.proofs.lemmas.Bool.{eqb-false}
+use Rattle.std.specs.Prelude.{Some}
+use Rattle.std.specs.declared.option.Option.{Option}
+use Rattle.std.specs.Str.{bytes_eq}
 use Rattle.text.specs.declared.Number.{Number}
-use Rattle.text.specs.Text.{is_digit, digits_in, value_from, no_number, ended_number_of, read_number_of}
+use Rattle.text.specs.Text.{is_digit, digits_in, value_from, no_number, number_of, ended_number_of, read_number_of, value_read, digits_read}
 use Rattle.text.specs.Decimal.{decimal_of, digit_count, length_decimal, digit_count_most, digit_count_few}
 use Rattle.text.specs.Back.{whole_number, number_back, number_whole}
 use Rattle.wave_rules.specs.Lines.{joined, same}
 use Rattle.wave_rules.specs.Dump.{turned}
 use Rattle.wave_rules.specs.declared.Stage.{Stage}
-use Rattle.wave_rules.specs.declared.Stage.TheVariants.{Opening, Scope, Variables, Ending, Start, Values, Waiting, Changing, Lost}
-use Rattle.wave_rules.specs.declared.Verdict.TheVariants.{Bad}
+use Rattle.wave_rules.specs.declared.Stage.TheVariants.{Opening, Scope, Variables, Ending, Start, Values, Waiting, Changing}
 use Rattle.wave_rules.specs.Dump.{timescale, scope_line, var_line, upscope, end_line, time_line, bit_line}
 use Rattle.wave_rules.specs.Reader.{time_in, cell_in, after_variable, after_value, is_time, is_change, next_of, bits_of, at_end, script_words_at}
-use Rattle.wave_rules.specs.Stages.{Reach}
-use Rattle.wave_rules.proofs.Stages.{false_not, nested, same_refl as same_self, same_true, time_later, reach_next}
-use Rattle.wave_line.specs.Stages.{is_lost, Early, waits_of, sum_of, stamp_of, after_time}
+use Rattle.wave_rules.proofs.Stages.{some_if, nested, same_refl as same_self, same_true, time_later}
+use Rattle.wave_line.specs.Stages.{Early, sum_of, stamp_of, after_time}
 use Rattle.print.specs.Print.{put_of}
 use Rattle.wave_write.specs.Laws.{length_time, length_bit, length_var, five_digits}
+
+-- `==` on slices is this test
+pub same_bytes : (x y : List ℕ) → bytes_eq x y ≡ same x y
+unfolding same
+same_bytes [] [] = refl
+same_bytes [] (b ∷ y) = refl
+same_bytes (a ∷ x) [] = refl
+same_bytes (a ∷ x) (b ∷ y) = go (a == b) (same_bytes x y)
+  where
+    go : (t : Bool) → bytes_eq x y ≡ same x y → (t && bytes_eq x y) ≡ (if t then same x y else false)
+    go true e = e
+    go false e = refl
 
 neither : (b : Bool) → (if b then false else false) ≡ false
 neither true = refl
@@ -34,15 +47,6 @@ same_short (a ∷ x) (b ∷ y) h = go (a == b) (same_short x y (λ e. h (ap suc 
     go : (t : Bool) → same x y ≡ false → (if t then same x y else false) ≡ false
     go true e = e
     go false e = refl
-
-pub same_at : (x y : List ℕ) (i : ℕ) → i < length x → i < length y
-    → same (drop i x) (drop i y) ≡ (if nat_eq (slice_index x i) (slice_index y i) then same (drop (i + 1) x) (drop (i + 1) y) else false)
-unfolding same
-same_at x y i h k = rw (drop-cons x i 0 h, drop-cons y i 0 k, add-one i)
-
-pub same_end : (x y : List ℕ) (i : ℕ) → length x ≤ i → length y ≤ i → same (drop i x) (drop i y) ≡ true
-unfolding same
-same_end x y i h k = rw (drop_of_length-le x h, drop_of_length-le y k)
 
 -- a line of a bit has two bytes
 pub same_bit : (x : List ℕ) (bit c : ℕ) → length x ≡ 2
@@ -60,48 +64,48 @@ same_bit (a ∷ b ∷ d ∷ x) bit c h = absurd (omega arith)
 
 -- ---- a time line, without printing one
 
-number_some : (y : List ℕ) → 0 < (read_number_of y).value → 0 < length y
+number_some : (y : List ℕ) → 0 < (value_read (read_number_of y)) → 0 < length y
 unfolding read_number_of ended_number_of value_from digits_in
 number_some [] h = absurd (omega arith)
 number_some (b ∷ y) h = omega arith
 
 -- what is read as t is t printed exactly if nothing stands behind its digits
-same_decimal : (y : List ℕ) → 0 < (read_number_of y).value → (read_number_of y).value ≤ 32768
-    → same y (decimal_of (read_number_of y).value) ≡ (length y == (read_number_of y).digits)
+same_decimal : (y : List ℕ) → 0 < (value_read (read_number_of y)) → (value_read (read_number_of y)) ≤ 32768
+    → same y (decimal_of (value_read (read_number_of y))) ≡ (length y == (digits_read (read_number_of y)))
 unfolding digits_in
-same_decimal y h k = go (length y == (read_number_of y).digits) refl (same y (decimal_of (read_number_of y).value)) refl
+same_decimal y h k = go (length y == (digits_read (read_number_of y))) refl (same y (decimal_of (value_read (read_number_of y)))) refl
   where
-    go : (e : Bool) → (length y == (read_number_of y).digits) ≡ e → (f : Bool) → same y (decimal_of (read_number_of y).value) ≡ f → same y (decimal_of (read_number_of y).value) ≡ e
+    go : (e : Bool) → (length y == (digits_read (read_number_of y))) ≡ e → (f : Bool) → same y (decimal_of (value_read (read_number_of y))) ≡ f → same y (decimal_of (value_read (read_number_of y))) ≡ e
     go true p f q =
-        let w = number_whole y (number_some y h) (sym (eqb-true (length y) (read_number_of y).digits p)) in
+        let w = number_whole y (number_some y h) (sym (eqb-true (length y) (digits_read (read_number_of y)) p)) in
         ap (λ (o : List ℕ). same y o) (sym w) ∙ same_self y
     go false p true q =
-        let t = (read_number_of y).value in
+        let t = (value_read (read_number_of y)) in
         let w : decimal_of t ++ [] ≡ y = append-nil (decimal_of t) ∙ sym (same_true y (decimal_of t) q) in
-        let back : read_number_of (decimal_of t ++ []) ≡ whole_number t = number_back t [] (omega arith) refl in
-        let d : (read_number_of y).digits ≡ digit_count t = sym (ap (λ (o : List ℕ). (read_number_of o).digits) w) ∙ ap (λ (o : Number). o.digits) back in
+        let back : read_number_of (decimal_of t ++ []) ≡ Some (whole_number t) = number_back t [] (omega arith) refl in
+        let d : (digits_read (read_number_of y)) ≡ digit_count t = sym (ap (λ (o : List ℕ). digits_read (read_number_of o)) w) ∙ ap digits_read back in
         let l : length y ≡ digit_count t = ap length (same_true y (decimal_of t) q) ∙ length_decimal t in
-        absurd (eqb-false (length y) (read_number_of y).digits p (l ∙ sym d))
+        absurd (eqb-false (length y) (digits_read (read_number_of y)) p (l ∙ sym d))
     go false p false q = q
 
 -- what a number that is not 0 says of its bytes, and the other way round
-read_parts : (y : List ℕ) → 0 < (read_number_of y).value
-    → ((read_number_of y).digits ≡ digits_in y) × ((read_number_of y).value ≡ value_from 0 y) × ((slice_index y 0 == 48 && nat_lt 1 (digits_in y)) ≡ false) × (0 < digits_in y)
+read_parts : (y : List ℕ) → 0 < (value_read (read_number_of y))
+    → ((digits_read (read_number_of y)) ≡ digits_in y) × ((value_read (read_number_of y)) ≡ value_from 0 y) × ((slice_index y 0 == 48 && nat_lt 1 (digits_in y)) ≡ false) × (0 < digits_in y)
 unfolding read_number_of ended_number_of
 read_parts y h = go (nat_lt 4294967295 (value_from 0 y)) (digits_in y == 0) refl (slice_index y 0 == 48 && nat_lt 1 (digits_in y)) refl h
   where
-    made : (t u w : Bool) → Number
-    made t u w = if t then no_number else if u then no_number else if w then no_number else record { fine = true; value = value_from 0 y; digits = digits_in y }
+    made : (t u w : Bool) → Option Number
+    made t u w = if t then no_number else if u then no_number else if w then no_number else Some (number_of (value_from 0 y) (digits_in y))
 
-    go : (t u : Bool) → (digits_in y == 0) ≡ u → (w : Bool) → (slice_index y 0 == 48 && nat_lt 1 (digits_in y)) ≡ w → 0 < (made t u w).value
-        → ((made t u w).digits ≡ digits_in y) × ((made t u w).value ≡ value_from 0 y) × ((slice_index y 0 == 48 && nat_lt 1 (digits_in y)) ≡ false) × (0 < digits_in y)
+    go : (t u : Bool) → (digits_in y == 0) ≡ u → (w : Bool) → (slice_index y 0 == 48 && nat_lt 1 (digits_in y)) ≡ w → 0 < value_read (made t u w)
+        → (digits_read (made t u w) ≡ digits_in y) × (value_read (made t u w) ≡ value_from 0 y) × ((slice_index y 0 == 48 && nat_lt 1 (digits_in y)) ≡ false) × (0 < digits_in y)
     go true u p w q k = absurd (omega arith)
     go false true p w q k = absurd (omega arith)
     go false false p true q k = absurd (omega arith)
     go false false p false q k = (refl, refl, q, omega (arith, eqb-false (digits_in y) 0 p))
 
 read_made : (y : List ℕ) → value_from 0 y ≤ 4294967295 → 0 < digits_in y → slice_index y 0 ≢ 48
-    → read_number_of y ≡ record { fine = true; value = value_from 0 y; digits = digits_in y }
+    → read_number_of y ≡ Some (number_of (value_from 0 y) (digits_in y))
 unfolding read_number_of ended_number_of
 read_made y h k z = let some : digits_in y ≢ 0 = omega arith in rw (le-ltb 4294967295 (value_from 0 y) h, ne_eqb (digits_in y) 0 some, ne_eqb (slice_index y 0) 48 z)
 
@@ -130,13 +134,13 @@ unfolding is_time stamp_of sum_of time_in time_line same
 stamp_is last [] e = absurd (omega (arith, number_some [] (omega (arith, (time_later last [] e).0))))
 stamp_is last (a ∷ y) e =
     let l = time_later last (a ∷ y) e in
-    let t = (read_number_of y).value in
+    let t = (value_read (read_number_of y)) in
     let p = nested (nat_lt last t) (if leb t 32768 then (if nat_eq a 35 then same y (decimal_of t) else false) else false) e in
     let q = nested (nat_le t 32768) (if nat_eq a 35 then same y (decimal_of t) else false) p.1 in
     let r = nested (a == 35) (same y (decimal_of t)) q.1 in
     let some : 0 < t = omega (arith, l.0) in
     let w = read_parts y some in
-    let n : length y ≡ digits_in y = eqb-true (length y) (read_number_of y).digits (sym (same_decimal y some l.1) ∙ r.1) ∙ w.0 in
+    let n : length y ≡ digits_in y = eqb-true (length y) (digits_read (read_number_of y)) (sym (same_decimal y some l.1) ∙ r.1) ∙ w.0 in
     let few : length y ≤ 5 = omega (arith, ap length (same_true y (decimal_of t) r.1), length_decimal t, five_digits t (omega (arith, l.1))) in
     let z = first_some y (sym n) (omega (arith, some, w.1)) w.2 in
     let c : 2 ≤ suc (length y) = omega (arith, n, w.3) in
@@ -173,31 +177,31 @@ stamp_time last [] h k = absurd (stamp_none (omega arith))
 stamp_time last (a ∷ y) h k =
     let m = stamp_made a y (omega arith) in
     let n = read_made y (omega (arith, m.3)) (omega (arith, m.2, m.4)) m.1 in
-    let t = (read_number_of y).value in
-    let v : t ≡ stamp_of (a ∷ y) = ap (λ (o : Number). o.value) n ∙ sym m.3 in
-    let d : (read_number_of y).digits ≡ length y = ap (λ (o : Number). o.digits) n ∙ m.2 in
-    let w : same y (decimal_of t) ≡ true = same_decimal y (omega (arith, v)) (omega (arith, v)) ∙ eq-eqb (length y) (read_number_of y).digits (sym d) in
+    let t = (value_read (read_number_of y)) in
+    let v : t ≡ stamp_of (a ∷ y) = ap value_read n ∙ sym m.3 in
+    let d : (digits_read (read_number_of y)) ≡ length y = ap digits_read n ∙ m.2 in
+    let w : same y (decimal_of t) ≡ true = same_decimal y (omega (arith, v)) (omega (arith, v)) ∙ eq-eqb (length y) (digits_read (read_number_of y)) (sym d) in
     let p : last < t = omega (arith, v) in
     let q : t ≤ 32768 = omega (arith, v) in
     rw (lt-ltb last t p, le-leb t 32768 q, eq-eqb a 35 m.0, w)
 
 -- what a line leads to, by its stamp
 module _ (n last : ℕ) (x : List ℕ) (t : ℕ) (e : t ≡ stamp_of x) where
-  pub time_past : t ≤ last → Lost ≡ after_time n last x
+  pub time_past : t ≤ last → None ≡ after_time n last x
   time_past h = go (is_time last x) refl
     where
-      go : (b : Bool) → is_time last x ≡ b → Lost ≡ (if b then Changing n last (time_in x) else Lost)
+      go : (b : Bool) → is_time last x ≡ b → None ≡ (if b then Some (Changing n last (time_in x)) else None)
       go true p = absurd (omega (arith, e, stamp_is last x p, (time_later last x p).0))
       go false p = refl
 
-  pub time_far : 32768 < t → Lost ≡ after_time n last x
+  pub time_far : 32768 < t → None ≡ after_time n last x
   time_far h = go (is_time last x) refl
     where
-      go : (b : Bool) → is_time last x ≡ b → Lost ≡ (if b then Changing n last (time_in x) else Lost)
+      go : (b : Bool) → is_time last x ≡ b → None ≡ (if b then Some (Changing n last (time_in x)) else None)
       go true p = absurd (omega (arith, e, stamp_is last x p, (time_later last x p).1))
       go false p = refl
 
-  pub time_taken : last < t → t ≤ 32768 → Changing n last t ≡ after_time n last x
+  pub time_taken : last < t → t ≤ 32768 → Some (Changing n last t) ≡ after_time n last x
   time_taken h k = let p = stamp_time last x (omega arith) (omega arith) in rw (p, ← stamp_is last x p, e)
 
 -- a line that was put, without its line feed
@@ -214,13 +218,6 @@ line_put_lem l m x j h e =
     let t : take (j - 1) m ≡ x = rw (k, g) (take_at x (10 ∷ drop (0 + length (x ++ 10 ∷ [])) l) (length x) refl) in
     (omega arith, t, omega (arith, ap length t))
 
-pub turned_few : (bit : ℕ) → turned bit ≤ 1
-turned_few bit = go (bit == 0)
-  where
-    go : (b : Bool) → (if b then 1 else 0) ≤ 1
-    go true = omega arith
-    go false = omega arith
-
 -- ---- stages
 
 -- what a line before the changes leads to: such a stage, or the changes, from time 0 on
@@ -233,63 +230,47 @@ Follows (Start n) = Unit {0}
 Follows (Values n c) = Unit {0}
 Follows (Waiting n last) = last ≡ 0
 Follows (Changing n last t) = ⊥
-Follows Lost = Unit {0}
 
-follows_if : (b : Bool) (s : Stage) → Follows s → Follows (if b then s else Lost)
-follows_if true s f = f
-follows_if false s f = tt
+follows_if : (b : Bool) (s t : Stage) → (if b then Some s else None) ≡ Some t → Follows s → Follows t
+follows_if b s t e f = rw (some_if b s t e).1 f
 
-follows_next : (s : Stage) (bits x : List ℕ) → Early s → Follows (next_of s bits x)
+follows_next : (s : Stage) (bits x : List ℕ) (t : Stage) → next_of s bits x ≡ Some t → Early s → Follows t
 unfolding after_variable after_value
-follows_next Opening bits x e = follows_if (same x timescale) Scope tt
-follows_next Scope bits x e = follows_if (same x scope_line) (Variables 0) tt
-follows_next (Variables n) bits x e = go (if ltb n 94 then same x (var_line n) else false) (if ltb 0 n then same x upscope else false)
+follows_next Opening bits x t n e = follows_if (same x timescale) Scope t n tt
+follows_next Scope bits x t n e = follows_if (same x scope_line) (Variables 0) t n tt
+follows_next (Variables c) bits x t n e = go (if ltb c 94 then same x (var_line c) else false) (if ltb 0 c then same x upscope else false) n
   where
-    go : (a b : Bool) → Follows (if a then Variables (n + 1) else if b then Ending n else Lost)
-    go true b = tt
-    go false true = tt
-    go false false = tt
-follows_next (Ending n) bits x e = follows_if (same x end_line) (Start n) tt
-follows_next (Start n) bits x e = follows_if (same x (time_line 0)) (Values n 0) tt
-follows_next (Values n c) bits x e = go (same x (bit_line 0 c)) (nat_lt (c + 1) n)
+    go : (a b : Bool) → (if a then Some (Variables (c + 1)) else if b then Some (Ending c) else None) ≡ Some t → Follows t
+    go true b n = let s : t ≡ Variables (c + 1) = cc in rw s tt
+    go false true n = let s : t ≡ Ending c = cc in rw s tt
+    go false false n = cc
+follows_next (Ending c) bits x t n e = follows_if (same x end_line) (Start c) t n tt
+follows_next (Start c) bits x t n e = follows_if (same x (time_line 0)) (Values c 0) t n tt
+follows_next (Values m c) bits x t n e = follows_if (same x (bit_line 0 c)) (if nat_lt (c + 1) m then Values m (c + 1) else Waiting m 0) t n (go (nat_lt (c + 1) m))
   where
-    go : (a b : Bool) → Follows (if a then (if b then Values n (c + 1) else Waiting n 0) else Lost)
-    go true true = tt
-    go true false = refl
-    go false b = tt
-follows_next (Waiting n last) bits x e = absurd e
-follows_next (Changing n last t) bits x e = absurd e
-follows_next Lost bits x e = absurd e
+    go : (b : Bool) → Follows (if b then Values m (c + 1) else Waiting m 0)
+    go true = tt
+    go false = refl
+follows_next (Waiting c last) bits x t n e = absurd e
+follows_next (Changing c last u) bits x t n e = absurd e
 
-early_of : (s : Stage) → Follows s → Reach s → is_lost s ≡ false → waits_of s ≤ 0 → Early s
-early_of Opening f r l w = tt
-early_of Scope f r l w = tt
-early_of (Variables n) f r l w = tt
-early_of (Ending n) f r l w = tt
-early_of (Start n) f r l w = tt
-early_of (Values n c) f r l w = tt
-early_of (Waiting n last) f r l w = absurd (omega (arith, r.0))
-early_of (Changing n last t) f r l w = f
-early_of Lost f r l w = false_not (sym l)
-
-waiting_of : (s : Stage) → Follows s → 0 < waits_of s → s ≡ Waiting (waits_of s) 0
-waiting_of Opening f w = absurd (omega arith)
-waiting_of Scope f w = absurd (omega arith)
-waiting_of (Variables n) f w = absurd (omega arith)
-waiting_of (Ending n) f w = absurd (omega arith)
-waiting_of (Start n) f w = absurd (omega arith)
-waiting_of (Values n c) f w = absurd (omega arith)
-waiting_of (Waiting n last) f w = rw f
-waiting_of (Changing n last t) f w = absurd f
-waiting_of Lost f w = absurd (omega arith)
+early_of : (s : Stage) → Follows s → ((n last : ℕ) → s ≡ Waiting n last → ⊥) → Early s
+early_of Opening f w = tt
+early_of Scope f w = tt
+early_of (Variables n) f w = tt
+early_of (Ending n) f w = tt
+early_of (Start n) f w = tt
+early_of (Values n c) f w = tt
+early_of (Waiting n last) f w = w n last refl
+early_of (Changing n last t) f w = f
 
 -- a line that was taken leads to another such stage, or to the changes
-module _ (s : Stage) (bits x : List ℕ) (e : Early s) (after : Stage) (a : after ≡ next_of s bits x) where
-  pub next_early : Reach s → is_lost after ≡ false → waits_of after ≤ 0 → Early after
-  next_early r l w = early_of after (rw a (follows_next s bits x e)) (rw a (reach_next s bits x r)) l w
+module _ (s : Stage) (bits x : List ℕ) (e : Early s) (after : Stage) (a : next_of s bits x ≡ Some after) where
+  pub next_early : ((n last : ℕ) → after ≡ Waiting n last → ⊥) → Early after
+  next_early w = early_of after (follows_next s bits x after a e) w
 
-  pub next_waiting : 0 < waits_of after → after ≡ Waiting (waits_of after) 0
-  next_waiting w = waiting_of after (rw a (follows_next s bits x e)) w
+  pub next_waiting : (n last : ℕ) → after ≡ Waiting n last → last ≡ 0
+  next_waiting n last w = let f : Follows after = follows_next s bits x after a e in rw w at f
 
 -- such a line changes no bit and adds no word, and no text may end before the changes
 pub early_bits : (s : Stage) (bits x : List ℕ) → Early s → bits_of s bits x ≡ bits
@@ -301,7 +282,6 @@ early_bits (Start n) bits x e = refl
 early_bits (Values n c) bits x e = refl
 early_bits (Waiting n last) bits x e = absurd e
 early_bits (Changing n last t) bits x e = absurd e
-early_bits Lost bits x e = absurd e
 
 pub early_words : (s : Stage) (bits x w : List ℕ) → Early s → script_words_at s bits x w ≡ w
 early_words Opening bits x w e = refl
@@ -312,9 +292,8 @@ early_words (Start n) bits x w e = refl
 early_words (Values n c) bits x w e = refl
 early_words (Waiting n last) bits x w e = absurd e
 early_words (Changing n last t) bits x w e = absurd e
-early_words Lost bits x w e = absurd e
 
-pub early_end : (s : Stage) (k : ℕ) → Early s → Bad k ≡ at_end s k
+pub early_end : (s : Stage) (k : ℕ) → Early s → Err k ≡ at_end s k
 early_end Opening k e = refl
 early_end Scope k e = refl
 early_end (Variables n) k e = refl
@@ -323,7 +302,6 @@ early_end (Start n) k e = refl
 early_end (Values n c) k e = refl
 early_end (Waiting n last) k e = absurd e
 early_end (Changing n last t) k e = absurd e
-early_end Lost k e = absurd e
 
 -- ---- lines that are too long: no line of a dump has more than 22 bytes, which a variable from c10 on has
 
@@ -351,7 +329,7 @@ no_variable n x h = go (nat_lt n 94) refl
     go false e = refl
 
 -- such a line is wrong, whatever is waited for
-pub long_lost : (s : Stage) (bits x : List ℕ) → 22 < length x → next_of s bits x ≡ Lost
+pub long_lost : (s : Stage) (bits x : List ℕ) → 22 < length x → next_of s bits x ≡ None
 unfolding after_variable after_value is_time is_change
 long_lost Opening bits x h = rw (too_long x timescale fixed_short.0 h)
 long_lost Scope bits x h = rw (too_long x scope_line fixed_short.1 h)
@@ -364,4 +342,3 @@ long_lost (Waiting n last) bits x h =
 long_lost (Changing n last t) bits x h =
     let b = turned (slice_index bits (cell_in x)) in
     rw (too_long x (bit_line b (cell_in x)) (bit_short b (cell_in x)) h, neither (nat_lt (cell_in x) n))
-long_lost Lost bits x h = refl

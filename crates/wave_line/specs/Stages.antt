@@ -1,21 +1,9 @@
 -- Questions about a stage and a line, which the reader's steps ask.
-use Rattle.std.specs.Prelude.{ℕ, ◌-◌, Bool, true, false, List, length, drop, ◌==◌, nat_eq, nat_lt, slice_index, if◌then◌else◌}
+use Rattle.std.specs.Prelude.{ℕ, ◌-◌, List, length, drop, ◌==◌, nat_eq, nat_lt, slice_index, if◌then◌else◌, Option, Some, None}
 use Rattle.text.specs.Text.{digits_in, value_from}
 use Rattle.wave_rules.specs.Reader.{time_in, is_time}
 use Rattle.wave_rules.specs.declared.Stage.{Stage}
-use Rattle.wave_rules.specs.declared.Stage.TheVariants.{Opening, Scope, Variables, Ending, Start, Values, Waiting, Changing, Lost}
-
--- whether a line led nowhere
-abbrev pub is_lost : Stage → Bool
-is_lost Opening = false
-is_lost Scope = false
-is_lost (Variables n) = false
-is_lost (Ending n) = false
-is_lost (Start n) = false
-is_lost (Values n c) = false
-is_lost (Waiting n last) = false
-is_lost (Changing n last t) = false
-is_lost Lost = true
+use Rattle.wave_rules.specs.declared.Stage.TheVariants.{Opening, Scope, Variables, Ending, Start, Values, Waiting, Changing}
 
 -- the stages before the changes
 abbrev pub Early : Stage → Type 0
@@ -27,19 +15,6 @@ Early (Start n) = Unit {0}
 Early (Values n c) = Unit {0}
 Early (Waiting n last) = ⊥
 Early (Changing n last t) = ⊥
-Early Lost = ⊥
-
--- how many cells there are, where a time is waited for
-abbrev pub waits_of : Stage → ℕ
-waits_of Opening = 0
-waits_of Scope = 0
-waits_of (Variables n) = 0
-waits_of (Ending n) = 0
-waits_of (Start n) = 0
-waits_of (Values n c) = 0
-waits_of (Waiting n last) = n
-waits_of (Changing n last t) = 0
-waits_of Lost = 0
 
 -- what the digits behind a line's first byte come to; 0 if they are not all of it
 unfoldable pub sum_of : List ℕ → ℕ
@@ -52,5 +27,5 @@ stamp_of x =
     if slice_index x 0 == 35 then (if nat_eq (slice_index x 1) 48 then 0 else sum_of x) else 0
 
 -- what a line leads to where a time is waited for
-abbrev pub after_time : ℕ → ℕ → List ℕ → Stage
-after_time n last x = if is_time last x then Changing n last (time_in x) else Lost
+abbrev pub after_time : ℕ → ℕ → List ℕ → Option Stage
+after_time n last x = if is_time last x then Some (Changing n last (time_in x)) else None

@@ -1,58 +1,35 @@
 -- Laws for the reader's functions.
 use Prim.Native.Nat.{ℕ, zero, suc, ◌+◌, ◌*◌, ◌-◌, ◌/◌, ◌≤◌, ◌<◌}
-use Rattle.std.specs.Prelude.{◌≡◌, ◌≢◌, List, [], ◌∷◌, ◌++◌, Bool, eqb, leb, length, get_or, drop, take, set, replicate, if◌then◌else◌}
+use Rattle.std.specs.Prelude.{◌≡◌, List, [], ◌∷◌, ◌++◌, Bool, eqb, leb, length, get_or, drop, take, set, replicate, if◌then◌else◌, Option, Some, None, Result, Ok, Err}
 use Rattle.std.proofs.Math.Path.{refl, ap}
-use Rattle.std.proofs.Common.{sym, ◌∙◌, append_assoc, length-append, length-drop, drop_of_length-le, drop-drop, length-take-le, ltb-true, ltb-false, lt-ltb, le-ltb, le-leb, leb-true, leb-false, eqb-true}
+use Rattle.std.proofs.Common.{sym, ◌∙◌, append_assoc, length-append, length-drop, drop_of_length-le, drop-drop, length-take-le, ltb-true, ltb-false, lt-ltb, le-ltb, le-leb, leb-true, leb-false}
 use Rattle.std.proofs.Math.Bool.{true, false}
 use native.Mathlib.Omega.{arith}
 use Rattle.std.proofs.Math.Dec.{ltb}
 use Rattle.std.proofs.lemmas.List.{length-replicate}
-use Rattle.std.proofs.lemmas.List.Edits.{sets}
-use Rattle.std.proofs.lemmas.Bool.{lt-leb, eqb-false}
+use Rattle.std.proofs.lemmas.List.Edits.{sets, sets-eq}
+use borrow.Rule.Slice.PartMut.{put_mid}
 use Rattle.text.specs.Text.{before}
 use Rattle.wave_rules.specs.declared.Stage.{Stage}
-use Rattle.wave_rules.specs.declared.Stage.TheVariants.{Opening, Scope, Variables, Ending, Start, Values, Waiting, Changing, Lost}
-use Rattle.wave_rules.specs.declared.Verdict.{Verdict}
-use Rattle.wave_rules.specs.declared.Verdict.TheVariants.{Fine, Bad}
+use Rattle.wave_rules.specs.declared.Stage.TheVariants.{Opening, Waiting, Changing}
 use Rattle.wave_rules.specs.Lines.{torn, line, put, split_of}
 use Rattle.wave_rules.specs.Dump.{no_bits, flip_of}
-use Rattle.wave_rules.specs.Reader.{cell_in, is_change, next_of, bits_of, at_end, unless, verdict_of, idle, kind_for, script_words_at, script_words_of, read}
+use Rattle.wave_rules.specs.Reader.{Verdict, cell_in, is_change, next_of, bits_of, at_end, unless, verdict_of, idle, kind_for, script_words_at, script_words_of, read, read_of}
 use Rattle.wave_rules.specs.Stages.{Reach}
-use Rattle.wave_rules.proofs.Stages.{reach_next, false_not, bad_not, idle_length, words_count}
-use Rattle.wave_rules.specs.Calls.{answered}
-use Rattle.wave_rules.specs.declared.Undumped.TheVariants.{Read, NoRoom}
-use Rattle.wave_line.specs.Stages.{is_lost, Early, waits_of, stamp_of}
+use Rattle.wave_rules.proofs.Stages.{reach_next, bad_not, idle_length, words_count}
+use Rattle.wave_rules.specs.Calls.{answered, read_into_of}
+use Rattle.wave_rules.specs.declared.ReadRefusal.{ReadRefusal}
+use Rattle.wave_rules.specs.declared.ReadRefusal.TheVariants as read_refusal
+use Rattle.std.specs.Result.{MatchResult, IsErrAnd}
+use Rattle.std.proofs.lemmas.Result.{err_from_is_err_and}
+use Rattle.wave_line.specs.Stages.{Early, stamp_of}
 use Rattle.wave_line.specs.Laws.{long_lost, next_waiting, early_bits, early_words, time_past, time_far, time_taken}
 use Rattle.wave_line.specs.Fronts.{before_within, time_front, Stamped, change_front, change_told}
 use Rattle.wave_line.specs.declared.Time.{Time}
 use Rattle.wave_read.specs.declared.Header.{Header}
 use Rattle.print.specs.Print.{put_of}
-use Rattle.print.specs.Laws.{put_none, put_join, put_first, put_more, put_place}
+use Rattle.print.specs.Laws.{put_join, put_first, put_place}
 use Rattle.wave_write.specs.Laws.{put_size}
-
--- ---- stages
-
-pub unless_lost : (s : Stage) (k : ℕ) (v : Verdict) → is_lost s ≡ true → unless s k v ≡ Bad k
-unless_lost Opening k v e = false_not e
-unless_lost Scope k v e = false_not e
-unless_lost (Variables n) k v e = false_not e
-unless_lost (Ending n) k v e = false_not e
-unless_lost (Start n) k v e = false_not e
-unless_lost (Values n c) k v e = false_not e
-unless_lost (Waiting n last) k v e = false_not e
-unless_lost (Changing n last t) k v e = false_not e
-unless_lost Lost k v e = refl
-
-pub unless_live : (s : Stage) (k : ℕ) (v : Verdict) → is_lost s ≡ false → unless s k v ≡ v
-unless_live Opening k v e = refl
-unless_live Scope k v e = refl
-unless_live (Variables n) k v e = refl
-unless_live (Ending n) k v e = refl
-unless_live (Start n) k v e = refl
-unless_live (Values n c) k v e = refl
-unless_live (Waiting n last) k v e = refl
-unless_live (Changing n last t) k v e = refl
-unless_live Lost k v e = false_not (sym e)
 
 -- ---- lines of a text
 
@@ -111,49 +88,46 @@ before_behind (suc m) (b ∷ l) e = go (eqb b 10) e (before_behind m l)
 
 -- ---- where a line ends
 
--- the line feed, if it stands behind at most 22 bytes; else the end of the text: such a line is wrong (`long_lost`)
-unfoldable pub line_end_of : List ℕ → ℕ → ℕ
-line_end_of text at = if leb (before 10 (drop at text)) 22 then at + before 10 (drop at text) else length text
+-- the line feed, if it stands behind at most 22 bytes: else such a line is wrong (`long_lost`)
+unfoldable pub line_end_of : List ℕ → ℕ → Option ℕ
+line_end_of text at =
+    if leb (before 10 (drop at text)) 22 then (if ltb (before 10 (drop at text)) (length (drop at text)) then Some (at + before 10 (drop at text)) else None) else None
 
-module _ (text : List ℕ) (at : ℕ) where
-  near : before 10 (drop at text) ≤ 22 → line_end_of text at ≡ at + before 10 (drop at text)
+module _ (text : List ℕ) (at m n : ℕ) (e : n ≡ before 10 (take m (drop at text))) where
+  -- of the first m bytes one is a line feed
+  pub line_some : m ≤ 23 → m ≤ length (drop at text) → n < m → Some (at + n) ≡ line_end_of text at
   unfolding line_end_of
-  near h = rw (le-leb (before 10 (drop at text)) 22 h)
+  line_some h k l =
+      let b : n ≡ before 10 (drop at text) = e ∙ sym (before_front m (drop at text) (omega (arith, e))) in
+      let p : n ≤ 22 = omega arith in
+      let q : n < length (drop at text) = omega arith in
+      rw (← b, le-leb n 22 p, lt-ltb n (length (drop at text)) q)
 
-  far : 22 < before 10 (drop at text) → line_end_of text at ≡ length text
+  -- none is, and they are 23 or all that are left
+  pub line_none : (m < 23 → length (drop at text) ≤ m) → m ≡ n → None ≡ line_end_of text at
   unfolding line_end_of
-  far h = rw (lt-leb (before 10 (drop at text)) 22 h)
-
-  -- few bytes are left
-  pub line_near : (r : ℕ) → at ≤ length text → length text < at + 24 → r ≡ at + before 10 (drop at text) → r ≡ line_end_of text at
-  line_near r a h e = go (leb (before 10 (drop at text)) 22) refl
+  line_none h f = go (leb (before 10 (drop at text)) 22) refl (ltb (before 10 (drop at text)) (length (drop at text))) refl
     where
-      go : (t : Bool) → leb (before 10 (drop at text)) 22 ≡ t → r ≡ line_end_of text at
-      go true p = e ∙ sym (near (leb-true (before 10 (drop at text)) 22 p))
-      go false p =
-          let k = leb-false (before 10 (drop at text)) 22 p in
-          omega (arith, far k, before_within (drop at text), length-drop at text)
+      go : (a : Bool) → leb (before 10 (drop at text)) 22 ≡ a → (b : Bool) → ltb (before 10 (drop at text)) (length (drop at text)) ≡ b
+          → None ≡ (if a then (if b then Some (at + before 10 (drop at text)) else None) else None)
+      go true p true q = absurd (omega (arith, leb-true (before 10 (drop at text)) 22 p, ltb-true (before 10 (drop at text)) (length (drop at text)) q, before_behind m (drop at text) (sym e ∙ sym f), h (omega (arith, leb-true (before 10 (drop at text)) 22 p, before_behind m (drop at text) (sym e ∙ sym f)))))
+      go true p false q = refl
+      go false p b q = refl
 
-  -- of many, the first 23 have no line feed, or one
-  pub line_far : (n m : ℕ) → m ≡ 23 → n ≡ 0 + before 10 (take m (drop at text)) → n ≡ 23 → length text ≡ line_end_of text at
-  line_far n m k e f =
-      let g : n ≡ 0 + before 10 (take 23 (drop at text)) = rw k at e in
-      let b = before_behind 23 (drop at text) (omega arith) in
-      sym (far (omega arith))
-
-  pub line_within : (n m : ℕ) → m ≡ 23 → n ≡ 0 + before 10 (take m (drop at text)) → n < 23 → at + n ≡ line_end_of text at
-  line_within n m k e f =
-      let g : n ≡ 0 + before 10 (take 23 (drop at text)) = rw k at e in
-      let b = before_front 23 (drop at text) (omega arith) in
-      omega (arith, near (omega arith))
-
-  -- a line that ends before the text does
-  pub line_found : (r : ℕ) → r ≡ line_end_of text at → r ≢ length text → r ≡ at + before 10 (drop at text)
-  line_found r e h = go (leb (before 10 (drop at text)) 22) refl
-    where
-      go : (t : Bool) → leb (before 10 (drop at text)) 22 ≡ t → r ≡ at + before 10 (drop at text)
-      go true p = e ∙ near (leb-true (before 10 (drop at text)) 22 p)
-      go false p = absurd (h (e ∙ far (leb-false (before 10 (drop at text)) 22 p)))
+-- a line that ends before the text does
+pub line_found : (text : List ℕ) (at end : ℕ) → at ≤ length text → Some end ≡ line_end_of text at
+    → (end ≡ at + before 10 (drop at text)) × (end < length text)
+unfolding line_end_of
+line_found text at end h = go (leb (before 10 (drop at text)) 22) (ltb (before 10 (drop at text)) (length (drop at text))) refl
+  where
+    go : (a b : Bool) → ltb (before 10 (drop at text)) (length (drop at text)) ≡ b
+        → Some end ≡ (if a then (if b then Some (at + before 10 (drop at text)) else None) else None)
+        → (end ≡ at + before 10 (drop at text)) × (end < length text)
+    go true true q e =
+        let f : end ≡ at + before 10 (drop at text) = cc in
+        (f, omega (arith, f, ltb-true (before 10 (drop at text)) (length (drop at text)) q, length-drop at text))
+    go true false q e = cc
+    go false b q e = cc
 
 -- where the text ends; a last line without a line feed; a line
 pub scan_end : (text : List ℕ) (at k : ℕ) (s : Stage) (bits : List ℕ) → length text ≤ at
@@ -162,14 +136,14 @@ unfolding verdict_of split_of
 scan_end text at k s bits h = rw (drop_of_length-le text h)
 
 pub scan_torn : (text : List ℕ) (at end k : ℕ) (s : Stage) (bits : List ℕ) → at < length text
-    → end ≡ at + before 10 (drop at text) → end ≡ length text → Bad k ≡ verdict_of k s bits (split_of (drop at text))
+    → end ≡ at + before 10 (drop at text) → end ≡ length text → Err k ≡ verdict_of k s bits (split_of (drop at text))
 unfolding verdict_of
 scan_torn text at end k s bits h e f = rw (split_torn (drop at text) (omega (arith, length-drop at text)) (omega (arith, length-drop at text)))
 
 scan_line : (text : List ℕ) (at end k : ℕ) (s : Stage) (bits : List ℕ) → end ≡ at + before 10 (drop at text)
     → end < length text
     → verdict_of k s bits (split_of (drop at text))
-    ≡ unless (next_of s bits (take (end - at) (drop at text))) k (verdict_of (k + 1) (next_of s bits (take (end - at) (drop at text))) (bits_of s bits (take (end - at) (drop at text))) (split_of (drop (end + 1) text)))
+    ≡ unless (next_of s bits (take (end - at) (drop at text))) (Err k) (λ t. verdict_of (k + 1) t (bits_of s bits (take (end - at) (drop at text))) (split_of (drop (end + 1) text)))
 unfolding verdict_of
 scan_line text at end k s bits e h =
     let o : before 10 (drop at text) ≡ end - at = omega arith in
@@ -177,44 +151,51 @@ scan_line text at end k s bits e h =
     let q : drop (before 10 (drop at text) + 1) (drop at text) ≡ drop (end + 1) text = drop-drop (before 10 (drop at text) + 1) at text ∙ ap (λ (j : ℕ). drop j text) i in
     rw (split_at (drop at text) (omega (arith, length-drop at text)), q, o)
 
-pub scan_lost : (text : List ℕ) (at end k : ℕ) (s after : Stage) (bits : List ℕ) → end ≡ at + before 10 (drop at text)
-    → end < length text → after ≡ next_of s bits (take (end - at) (drop at text)) → is_lost after ≡ true
-    → Bad k ≡ verdict_of k s bits (split_of (drop at text))
-scan_lost text at end k s after bits e h n l = sym (scan_line text at end k s bits e h ∙ rw (← n) (unless_lost after k _ l))
+pub scan_lost : (text : List ℕ) (at end k : ℕ) (s : Stage) (bits : List ℕ) → end ≡ at + before 10 (drop at text)
+    → end < length text → next_of s bits (take (end - at) (drop at text)) ≡ None
+    → Err k ≡ verdict_of k s bits (split_of (drop at text))
+scan_lost text at end k s bits e h n = sym (scan_line text at end k s bits e h ∙ rw n)
 
 -- a line without a line feed, or one that is too long
-pub scan_stop : (text : List ℕ) (at r k : ℕ) (s : Stage) (bits : List ℕ) → at < length text → r ≡ line_end_of text at → r ≡ length text
-    → Bad k ≡ verdict_of k s bits (split_of (drop at text))
-scan_stop text at r k s bits h e f = go (eqb (at + before 10 (drop at text)) (length text)) refl (leb (before 10 (drop at text)) 22) refl
+pub scan_stop : (text : List ℕ) (at k : ℕ) (s : Stage) (bits : List ℕ) → at < length text → None ≡ line_end_of text at
+    → Err k ≡ verdict_of k s bits (split_of (drop at text))
+unfolding line_end_of
+scan_stop text at k s bits h e = go (leb (before 10 (drop at text)) 22) refl (ltb (before 10 (drop at text)) (length (drop at text))) refl e
   where
-    go : (t : Bool) → eqb (at + before 10 (drop at text)) (length text) ≡ t → (u : Bool) → leb (before 10 (drop at text)) 22 ≡ u → Bad k ≡ verdict_of k s bits (split_of (drop at text))
-    go true p u q = scan_torn text at (at + before 10 (drop at text)) k s bits h refl (eqb-true (at + before 10 (drop at text)) (length text) p)
-    go false p true q = absurd (eqb-false (at + before 10 (drop at text)) (length text) p (sym (near text at (leb-true (before 10 (drop at text)) 22 q)) ∙ sym e ∙ f))
-    go false p false q =
-        let y = take (at + before 10 (drop at text) - at) (drop at text) in
-        let out = eqb-false (at + before 10 (drop at text)) (length text) p in
-        let inside : at + before 10 (drop at text) < length text = omega (arith, out, before_within (drop at text), length-drop at text) in
-        let long : 22 < length y = omega (arith, leb-false (before 10 (drop at text)) 22 q, length-take-le (at + before 10 (drop at text) - at) (drop at text) (omega (arith, length-drop at text))) in
-        scan_lost text at (at + before 10 (drop at text)) k s (next_of s bits y) bits refl inside refl (rw (long_lost s bits y long))
+    end : ℕ
+    end = at + before 10 (drop at text)
+
+    go : (a : Bool) → leb (before 10 (drop at text)) 22 ≡ a → (b : Bool) → ltb (before 10 (drop at text)) (length (drop at text)) ≡ b
+        → None ≡ (if a then (if b then Some (at + before 10 (drop at text)) else None) else None) → Err k ≡ verdict_of k s bits (split_of (drop at text))
+    go true p true q f = cc
+    go a p false q f =
+        scan_torn text at end k s bits h refl (omega (arith, ltb-false (before 10 (drop at text)) (length (drop at text)) q, before_within (drop at text), length-drop at text))
+    go false p true q f =
+        let y = take (end - at) (drop at text) in
+        let inside : end < length text = omega (arith, ltb-true (before 10 (drop at text)) (length (drop at text)) q, length-drop at text) in
+        let long : 22 < length y = omega (arith, leb-false (before 10 (drop at text)) 22 p, length-take-le (end - at) (drop at text) (omega (arith, length-drop at text))) in
+        scan_lost text at end k s bits refl inside (long_lost s bits y long)
 
 pub scan_turn : (text : List ℕ) (at end k : ℕ) (s after : Stage) (bits b : List ℕ) → end ≡ at + before 10 (drop at text)
-    → end < length text → after ≡ next_of s bits (take (end - at) (drop at text)) → is_lost after ≡ false
+    → end < length text → next_of s bits (take (end - at) (drop at text)) ≡ Some after
     → b ≡ bits_of s bits (take (end - at) (drop at text)) → verdict_of (k + 1) after b (split_of (drop (end + 1) text)) ≡ verdict_of k s bits (split_of (drop at text))
-scan_turn text at end k s after bits b e h n l m = sym (scan_line text at end k s bits e h ∙ rw (← n, ← m) (unless_live after k _ l))
+scan_turn text at end k s after bits b e h n m = sym (scan_line text at end k s bits e h ∙ rw (n, ← m))
 
 -- ---- the words
 
--- one word more of a run of zeros
-pub zeros_turn : (l : List ℕ) (i k n : ℕ) → k < n
-    → put_of l i (replicate (n - k) 0) ≡ put_of (set l i 0) (i + 1) (replicate (n - (k + 1)) 0)
-zeros_turn l i k n h = let e : n - k ≡ suc (n - (k + 1)) = omega arith in rw e (sym (put_more l i 0 (replicate (n - (k + 1)) 0)))
+-- words of 0 behind one another
+pub zeros_put : (l m : List ℕ) (at n r : ℕ) → at + n ≤ length l → m ≡ replicate r 0 → r ≡ n
+    → (at + n, put_mid at (at + n - at) l m) ≡ put_of l at (replicate n 0)
+unfolding put_of
+zeros_put l m at n r h e f =
+    let k : at + n - at ≡ n = omega arith in
+    let z = length-replicate {A = ℕ} n 0 in
+    let s = sets-eq (replicate n 0) l at (omega (arith, z)) in
+    rw (e, f, k, z, s, z, drop-drop n at l, append_assoc (take at l) (replicate n 0) (drop (at + n) l))
 
 -- where it ends
 pub zeros_place : (l m : List ℕ) (at a n : ℕ) → (a, m) ≡ put_of l at (replicate n 0) → a ≡ at + n
 zeros_place l m at a n e = omega (arith, put_place l m at a (replicate n 0) e, length-replicate {A = ℕ} n 0)
-
-pub zeros_end : (l : List ℕ) (i k n : ℕ) → n ≤ k → (i, l) ≡ put_of l i (replicate (n - k) 0)
-zeros_end l i k n h = let e : n - k ≡ 0 = omega arith in rw e (put_none l i)
 
 pub step_words_lem : (l : List ℕ) (i a b : ℕ)
     → (i + 3, set (set (set l i a) (i + 1) b) (i + 2) 0) ≡ put_of l i (a ∷ b ∷ 0 ∷ [])
@@ -235,16 +216,16 @@ change_put out m o at a r gap kind cell f g = rw (idle_zeros gap (kind ∷ cell 
 idle_append : (gap kind cell : ℕ) (w : List ℕ) → idle gap (kind ∷ cell ∷ 0 ∷ w) ≡ idle gap (kind ∷ cell ∷ 0 ∷ []) ++ w
 idle_append gap kind cell w = rw (idle_zeros gap (kind ∷ cell ∷ 0 ∷ w), idle_zeros gap (kind ∷ cell ∷ 0 ∷ [])) (sym (append_assoc (replicate (3 * gap) 0) (kind ∷ cell ∷ 0 ∷ []) w))
 
--- the words of a line, and the rest
-words_line : (text : List ℕ) (at end : ℕ) (s : Stage) (bits : List ℕ) → end ≡ at + before 10 (drop at text)
-    → end < length text
-    → script_words_of s bits (split_of (drop at text)) ≡ script_words_at s bits (take (end - at) (drop at text)) (script_words_of (next_of s bits (take (end - at) (drop at text))) (bits_of s bits (take (end - at) (drop at text))) (split_of (drop (end + 1) text)))
+-- the words of a line that was taken, and the rest
+words_line : (text : List ℕ) (at end : ℕ) (s after : Stage) (bits : List ℕ) → end ≡ at + before 10 (drop at text)
+    → end < length text → next_of s bits (take (end - at) (drop at text)) ≡ Some after
+    → script_words_of s bits (split_of (drop at text)) ≡ script_words_at s bits (take (end - at) (drop at text)) (script_words_of after (bits_of s bits (take (end - at) (drop at text))) (split_of (drop (end + 1) text)))
 unfolding script_words_of
-words_line text at end s bits e h =
+words_line text at end s after bits e h n =
     let o : before 10 (drop at text) ≡ end - at = omega arith in
     let i : at + (before 10 (drop at text) + 1) ≡ end + 1 = omega arith in
     let q : drop (before 10 (drop at text) + 1) (drop at text) ≡ drop (end + 1) text = drop-drop (before 10 (drop at text) + 1) at text ∙ ap (λ (j : ℕ). drop j text) i in
-    rw (split_at (drop at text) (omega (arith, length-drop at text)), q, o)
+    rw (split_at (drop at text) (omega (arith, length-drop at text)), q, o, n)
 
 pub words_end : (text : List ℕ) (at : ℕ) (s : Stage) (bits : List ℕ) → length text ≤ at
     → script_words_of s bits (split_of (drop at text)) ≡ []
@@ -253,75 +234,68 @@ words_end text at s bits h = rw (drop_of_length-le text h)
 
 -- ---- the lines before the changes
 
--- no such text
-abbrev pub wrong_of : ℕ → Header
-wrong_of k = record { at = 0; cells = 0; line = k }
-
 -- where the changes begin, what they come to is what the text comes to
 pub record Onward (text : List ℕ) (at n k : ℕ) : Type 0 where
+  pub some : 1 ≤ n
   pub few : n ≤ 94
   pub within : at ≤ length text
   pub lines : k ≤ at + 1
   pub verdict : verdict_of k (Waiting n 0) no_bits (split_of (drop at text)) ≡ verdict_of 1 Opening no_bits (split_of text)
   pub words : script_words_of (Waiting n 0) no_bits (split_of (drop at text)) ≡ script_words_of Opening no_bits (split_of text)
 
-pub record Headed (text : List ℕ) (h : Header) : Type 0 where
-  pub wrong : h.cells ≡ 0 → Bad h.line ≡ verdict_of 1 Opening no_bits (split_of text)
-  pub right : 0 < h.cells → Onward text h.at h.cells h.line
-
-pub headed_wrong : (text : List ℕ) (h : Header) (k : ℕ) → h ≡ wrong_of k → Bad k ≡ verdict_of 1 Opening no_bits (split_of text)
-    → Headed text h
-headed_wrong text h k e f = rw e (record { wrong = (λ z. f); right = (λ z. absurd (omega arith)) })
+-- what the lines before the changes come to: where these begin, or the first wrong line
+abbrev pub Headed : List ℕ → Result Header ℕ → Type 0
+Headed text (Ok h) = Onward text h.at h.cells h.line
+Headed text (Err k) = Err k ≡ verdict_of 1 Opening no_bits (split_of text)
 
 -- a line before the changes adds no word
 pub early_turn : (text : List ℕ) (at end : ℕ) (s after : Stage) → Early s → end ≡ at + before 10 (drop at text)
-    → end < length text → after ≡ next_of s no_bits (take (end - at) (drop at text))
+    → end < length text → next_of s no_bits (take (end - at) (drop at text)) ≡ Some after
     → script_words_of after no_bits (split_of (drop (end + 1) text)) ≡ script_words_of s no_bits (split_of (drop at text))
 early_turn text at end s after b e h n =
     let x : List ℕ = take (end - at) (drop at text) in
-    sym (words_line text at end s no_bits e h ∙ early_words s no_bits x _ b ∙ rw (← n, early_bits s no_bits x b))
+    sym (words_line text at end s after no_bits e h n ∙ early_words s no_bits x _ b ∙ rw (early_bits s no_bits x b))
 
 pub early_scan : (text : List ℕ) (at end k : ℕ) (s after : Stage) → Early s → end ≡ at + before 10 (drop at text)
-    → end < length text → after ≡ next_of s no_bits (take (end - at) (drop at text)) → is_lost after ≡ false
+    → end < length text → next_of s no_bits (take (end - at) (drop at text)) ≡ Some after
     → verdict_of (k + 1) after no_bits (split_of (drop (end + 1) text)) ≡ verdict_of k s no_bits (split_of (drop at text))
-early_scan text at end k s after b e h n l = scan_turn text at end k s after no_bits no_bits e h n l (sym (early_bits s no_bits (take (end - at) (drop at text)) b))
+early_scan text at end k s after b e h n = scan_turn text at end k s after no_bits no_bits e h n (sym (early_bits s no_bits (take (end - at) (drop at text)) b))
 
 -- the last of them
-pub headed_right : (text : List ℕ) (at end k : ℕ) (s after : Stage) (cells : ℕ) → Reach s → Early s → k ≤ at + 1
-    → end ≡ at + before 10 (drop at text) → end < length text → after ≡ next_of s no_bits (take (end - at) (drop at text))
-    → is_lost after ≡ false → cells ≡ waits_of after → 0 < cells
+pub headed_right : (text : List ℕ) (at end k : ℕ) (s after : Stage) (cells last : ℕ) → Reach s → Early s → k ≤ at + 1
+    → end ≡ at + before 10 (drop at text) → end < length text → next_of s no_bits (take (end - at) (drop at text)) ≡ Some after
+    → after ≡ Waiting cells last
     → verdict_of k s no_bits (split_of (drop at text)) ≡ verdict_of 1 Opening no_bits (split_of text)
     → script_words_of s no_bits (split_of (drop at text)) ≡ script_words_of Opening no_bits (split_of text)
-    → Headed text (record { at = end + 1; cells = cells; line = k + 1 })
-headed_right text at end k s after cells r b j e h n l c p v w =
+    → Onward text (end + 1) cells (k + 1)
+headed_right text at end k s after cells last r b j e h n c v w =
     let x : List ℕ = take (end - at) (drop at text) in
-    let is : after ≡ Waiting cells 0 = rw c (next_waiting s no_bits x b after n (omega (arith, c))) in
-    let reached : Reach after = rw n (reach_next s no_bits x r) in
+    let z : last ≡ 0 = next_waiting s no_bits x b after n cells last c in
+    let is : after ≡ Waiting cells 0 = rw z at c in
+    let reached : Reach after = reach_next s no_bits x after n r in
     let few : (1 ≤ cells) × (cells ≤ 94) = rw is at reached in
     record {
-      wrong = (λ z. absurd (omega arith));
-      right = (λ z. record {
-        few = few.1;
-        within = omega arith;
-        lines = omega arith;
-        verdict = rw is at (early_scan text at end k s after b e h n l) ∙ v;
-        words = rw is at (early_turn text at end s after b e h n) ∙ w;
-      });
+      some = few.0;
+      few = few.1;
+      within = omega arith;
+      lines = omega arith;
+      verdict = rw is at (early_scan text at end k s after b e h n) ∙ v;
+      words = rw is at (early_turn text at end s after b e h n) ∙ w;
     }
 
 -- ---- the changes
 
 -- what they come to is of these cells
 abbrev pub OfCells : ℕ → Verdict → Type 0
-OfCells n (Fine m last) = m ≡ n
-OfCells n (Bad k) = Unit {0}
+OfCells n (Ok (m, last)) = m ≡ n
+OfCells n (Err k) = Unit {0}
 
 -- where a time is waited for
 module _ (text : List ℕ) (at n last : ℕ) (bits : List ℕ) where
   -- the line is lost, or torn
   wait_lost : (k t : ℕ) → at < length text → t ≡ time_front (drop at text)
-      → ((x : List ℕ) → t ≡ stamp_of x → Lost ≡ next_of (Waiting n last) bits x)
-      → Bad k ≡ verdict_of k (Waiting n last) bits (split_of (drop at text))
+      → ((x : List ℕ) → t ≡ stamp_of x → None ≡ next_of (Waiting n last) bits x)
+      → Err k ≡ verdict_of k (Waiting n last) bits (split_of (drop at text))
   unfolding time_front
   wait_lost k t h e f = go (ltb (before 10 (drop at text)) (length (drop at text))) refl
     where
@@ -331,21 +305,21 @@ module _ (text : List ℕ) (at n last : ℕ) (bits : List ℕ) where
       same_end : before 10 (drop at text) ≡ end - at
       same_end = omega arith
 
-      go : (b : Bool) → ltb (before 10 (drop at text)) (length (drop at text)) ≡ b → Bad k ≡ verdict_of k (Waiting n last) bits (split_of (drop at text))
+      go : (b : Bool) → ltb (before 10 (drop at text)) (length (drop at text)) ≡ b → Err k ≡ verdict_of k (Waiting n last) bits (split_of (drop at text))
       go true p =
           let inside = ltb-true (before 10 (drop at text)) (length (drop at text)) p in
           let s : t ≡ stamp_of (take (end - at) (drop at text)) = rw (p, same_end) at e in
-          scan_lost text at end k (Waiting n last) Lost bits refl (omega (arith, length-drop at text)) (f (take (end - at) (drop at text)) s) refl
+          scan_lost text at end k (Waiting n last) bits refl (omega (arith, length-drop at text)) (sym (f (take (end - at) (drop at text)) s))
       go false p =
           let beyond = ltb-false (before 10 (drop at text)) (length (drop at text)) p in
           scan_torn text at end k (Waiting n last) bits h refl (omega (arith, before_within (drop at text), length-drop at text))
 
   pub wait_past : (k t : ℕ) → at < length text → t ≡ time_front (drop at text) → t ≤ last
-      → Bad k ≡ verdict_of k (Waiting n last) bits (split_of (drop at text))
+      → Err k ≡ verdict_of k (Waiting n last) bits (split_of (drop at text))
   wait_past k t h e l = wait_lost k t h e (λ x s. time_past n last x t s l)
 
   pub wait_far : (k t : ℕ) → at < length text → t ≡ time_front (drop at text) → 32768 < t
-      → Bad k ≡ verdict_of k (Waiting n last) bits (split_of (drop at text))
+      → Err k ≡ verdict_of k (Waiting n last) bits (split_of (drop at text))
   wait_far k t h e l = wait_lost k t h e (λ x s. time_far n last x t s l)
 
   -- the line is taken
@@ -361,7 +335,7 @@ module _ (text : List ℕ) (at n last : ℕ) (bits : List ℕ) where
     inside : at + before 10 (drop at text) < length text
     inside = omega (arith, ltb-true (before 10 (drop at text)) (length (drop at text)) taken, length-drop at text)
 
-    leads : Changing n last t ≡ next_of (Waiting n last) bits (take (at + before 10 (drop at text) - at) (drop at text))
+    leads : Some (Changing n last t) ≡ next_of (Waiting n last) bits (take (at + before 10 (drop at text) - at) (drop at text))
     unfolding time_front
     leads =
         let o : before 10 (drop at text) ≡ at + before 10 (drop at text) - at = omega arith in
@@ -370,32 +344,32 @@ module _ (text : List ℕ) (at n last : ℕ) (bits : List ℕ) where
 
     pub wait_right : (k behind : ℕ) → behind ≡ at + before 10 (drop at text) + 1
         → verdict_of (k + 1) (Changing n last t) bits (split_of (drop behind text)) ≡ verdict_of k (Waiting n last) bits (split_of (drop at text))
-    wait_right k behind b = rw b (scan_turn text at (at + before 10 (drop at text)) k (Waiting n last) (Changing n last t) bits bits refl inside leads refl refl)
+    wait_right k behind b = rw b (scan_turn text at (at + before 10 (drop at text)) k (Waiting n last) (Changing n last t) bits bits refl inside (sym leads) refl)
 
     pub wait_words : (behind : ℕ) → behind ≡ at + before 10 (drop at text) + 1
         → script_words_of (Changing n last t) bits (split_of (drop behind text)) ≡ script_words_of (Waiting n last) bits (split_of (drop at text))
-    wait_words behind b = rw b (sym (words_line text at (at + before 10 (drop at text)) (Waiting n last) bits refl inside ∙ rw (← leads)))
+    wait_words behind b = rw b (sym (words_line text at (at + before 10 (drop at text)) (Waiting n last) (Changing n last t) bits refl inside (sym leads)))
 
 -- where a change is waited for
 module _ (text : List ℕ) (at n last t : ℕ) (bits : List ℕ) where
   pub change_wrong : (k : ℕ) → change_front n bits (drop at text) ≡ false
-      → Bad k ≡ verdict_of k (Changing n last t) bits (split_of (drop at text))
+      → Err k ≡ verdict_of k (Changing n last t) bits (split_of (drop at text))
   unfolding change_front
   change_wrong k e = go (ltb at (length text)) refl (ltb (before 10 (drop at text)) (length (drop at text))) refl
     where
       end : ℕ
       end = at + before 10 (drop at text)
 
-      lost : is_change n bits (take (end - at) (drop at text)) ≡ false → Lost ≡ next_of (Changing n last t) bits (take (end - at) (drop at text))
+      lost : is_change n bits (take (end - at) (drop at text)) ≡ false → next_of (Changing n last t) bits (take (end - at) (drop at text)) ≡ None
       lost f = rw f
 
       go : (a : Bool) → ltb at (length text) ≡ a → (b : Bool) → ltb (before 10 (drop at text)) (length (drop at text)) ≡ b
-          → Bad k ≡ verdict_of k (Changing n last t) bits (split_of (drop at text))
+          → Err k ≡ verdict_of k (Changing n last t) bits (split_of (drop at text))
       go true p true q =
           let inside = ltb-true (before 10 (drop at text)) (length (drop at text)) q in
           let o : before 10 (drop at text) ≡ end - at = omega arith in
           let f : is_change n bits (take (end - at) (drop at text)) ≡ false = rw (q, o) at e in
-          scan_lost text at end k (Changing n last t) Lost bits refl (omega (arith, length-drop at text)) (lost f) refl
+          scan_lost text at end k (Changing n last t) bits refl (omega (arith, length-drop at text)) (lost f)
       go true p false q =
           let beyond = ltb-false (before 10 (drop at text)) (length (drop at text)) q in
           scan_torn text at end k (Changing n last t) bits (ltb-true at (length text) p) refl (omega (arith, ltb-true at (length text) p, before_within (drop at text), length-drop at text))
@@ -408,7 +382,7 @@ module _ (text : List ℕ) (at n last t : ℕ) (bits : List ℕ) where
     told_is : take (before 10 (drop at text)) (drop at text) ≡ told
     told_is = let o : before 10 (drop at text) ≡ at + 2 - at = omega (arith, (change_told text at n bits e).0) in rw o
 
-    leads_on : Waiting n t ≡ next_of (Changing n last t) bits told
+    leads_on : next_of (Changing n last t) bits told ≡ Some (Waiting n t)
     leads_on = let f : is_change n bits told ≡ true = rw told_is at (change_told text at n bits e).5 in rw f
 
     named : cell_in told ≡ cell
@@ -418,21 +392,21 @@ module _ (text : List ℕ) (at n last t : ℕ) (bits : List ℕ) where
     change_right k =
         let d = change_told text at n bits e in
         let i : at + 2 + 1 ≡ at + 3 = omega arith in
-        rw (← i) (scan_turn text at (at + 2) k (Changing n last t) (Waiting n t) bits (flip_of bits cell) (omega (arith, d.0)) (omega (arith, d.1)) leads_on refl (ap (λ (j : ℕ). flip_of bits j) (sym named)))
+        rw (← i) (scan_turn text at (at + 2) k (Changing n last t) (Waiting n t) bits (flip_of bits cell) (omega (arith, d.0)) (omega (arith, d.1)) leads_on (ap (λ (j : ℕ). flip_of bits j) (sym named)))
 
     pub change_words : script_words_of (Changing n last t) bits (split_of (drop at text)) ≡ idle (t - (last + 1)) (kind_for (get_or bits cell 0) ∷ cell ∷ 0 ∷ []) ++ script_words_of (Waiting n t) (flip_of bits cell) (split_of (drop (at + 3) text))
     change_words =
         let d = change_told text at n bits e in
         let i : at + 2 + 1 ≡ at + 3 = omega arith in
-        words_line text at (at + 2) (Changing n last t) bits (omega (arith, d.0)) (omega (arith, d.1))
-        ∙ rw (← leads_on, named, i) (idle_append (t - (last + 1)) (kind_for (get_or bits cell 0)) cell (script_words_of (Waiting n t) (flip_of bits cell) (split_of (drop (at + 3) text))))
+        words_line text at (at + 2) (Changing n last t) (Waiting n t) bits (omega (arith, d.0)) (omega (arith, d.1)) leads_on
+        ∙ rw (named, i) (idle_append (t - (last + 1)) (kind_for (get_or bits cell 0)) cell (script_words_of (Waiting n t) (flip_of bits cell) (split_of (drop (at + 3) text))))
 
 -- ---- changes that are right
 
 pub record Right (text : List ℕ) (at n last : ℕ) (bits : List ℕ) : Type 0 where
   pub number : ℕ
   pub end : ℕ
-  pub fine : verdict_of number (Waiting n last) bits (split_of (drop at text)) ≡ Fine n end
+  pub fine : verdict_of number (Waiting n last) bits (split_of (drop at text)) ≡ Ok (n, end)
 
 -- a time and a change stand there
 pub right_time : (text : List ℕ) (at n last : ℕ) (bits : List ℕ) → at < length text → Right text at n last bits
@@ -484,7 +458,7 @@ pub pair_of : (text : List ℕ) (at n last : ℕ) (bits : List ℕ) (s : Time) �
 pair_of text at n last bits s h r st =
     let q = right_time text at n last bits h r in
     let l : last < s.value = omega (arith, q.0, st.told) in
-    let b = st.next (omega arith) in
+    let b = st.next in
     let d = change_told text s.behind n bits (right_change text at n last bits h r s.value s.behind st.told b.0) in
     record {
       later = l;
@@ -502,30 +476,23 @@ pub record Begun (text : List ℕ) (at n last : ℕ) : Type 0 where
   pub within : at ≤ length text
   pub right : Right text at n 0 no_bits
   pub words : script_words_of (Waiting n 0) no_bits (split_of (drop at text)) ≡ script_words_of Opening no_bits (split_of text)
-  pub fine : verdict_of 1 Opening no_bits (split_of text) ≡ Fine n last
-
-pub begun_of : (text : List ℕ) (at cells k n last : ℕ) (v : Verdict) → Onward text at cells k
-    → v ≡ verdict_of k (Waiting cells 0) no_bits (split_of (drop at text)) → OfCells cells v → v ≡ Fine n last → Begun text at n last
-begun_of text at cells k n last v o e c f =
-    let s : n ≡ cells = rw f at c in
-    let g : verdict_of k (Waiting cells 0) no_bits (split_of (drop at text)) ≡ Fine cells last = sym e ∙ f ∙ ap (λ (m : ℕ). Fine m last) s in
-    rw s (record { few = o.few; within = o.within; right = record { number = k; end = last; fine = g }; words = o.words; fine = sym o.verdict ∙ g })
+  pub fine : verdict_of 1 Opening no_bits (split_of text) ≡ Ok (n, last)
 
 -- ---- the room
 
 -- the answer where the words do not fit, and where they do
-pub give_none : (text out : List ℕ) (n last : ℕ) → verdict_of 1 Opening no_bits (split_of text) ≡ Fine n last
+pub give_none : (text out : List ℕ) (n last : ℕ) → verdict_of 1 Opening no_bits (split_of text) ≡ Ok (n, last)
     → length out / 3 < last
-    → (NoRoom, out) ≡ answered (read n (script_words_of Opening no_bits (split_of text))) out
+    → (Err read_refusal.NoRoom, out) ≡ answered (read n (script_words_of Opening no_bits (split_of text))) out
 give_none text out n last e h =
     let c = words_count (split_of text) n last no_bits e in
     let l : length out < length (script_words_of Opening no_bits (split_of text)) = omega arith in
     rw (lt-ltb _ _ l)
 
-pub give_some : (text out o : List ℕ) (n last : ℕ) → verdict_of 1 Opening no_bits (split_of text) ≡ Fine n last
+pub give_some : (text out o : List ℕ) (n last : ℕ) → verdict_of 1 Opening no_bits (split_of text) ≡ Ok (n, last)
     → last ≤ length out / 3
     → o ≡ sets out 0 (script_words_of Opening no_bits (split_of text))
-    → (Read n last, o) ≡ answered (read n (script_words_of Opening no_bits (split_of text))) out
+    → (Ok (n, last), o) ≡ answered (read n (script_words_of Opening no_bits (split_of text))) out
 give_some text out o n last e h p =
     let c = words_count (split_of text) n last no_bits e in
     let l : length (script_words_of Opening no_bits (split_of text)) ≤ length out = omega arith in
@@ -547,3 +514,30 @@ put_room out m i j all y gap kind cell w e p =
 pub put_all : (l m : List ℕ) (i : ℕ) (x : List ℕ) → put_of m i [] ≡ put_of l 0 x → m ≡ sets l 0 x
 unfolding put_of
 put_all l m i x e = ap (λ (o : ℕ × List ℕ). o.1) e
+
+-- ---- the call
+
+-- a wrong line is handed on as the reader's refusal, and what is right as it is
+module _ {A : Type 0} (r : Result A ℕ) (s : Result A ReadRefusal)
+    (cases : MatchResult r (λ x. s ≡ Ok x) (λ k. IsErrAnd s (λ e. e ≡ read_refusal.BadLine k))) where
+  pub handed_err : (e : ReadRefusal) → s ≡ Err e → (k : ℕ) × (r ≡ Err k) × (e ≡ read_refusal.BadLine k)
+  handed_err e f = go r refl
+    where
+      go : (o : Result A ℕ) → r ≡ o → (k : ℕ) × (r ≡ Err k) × (e ≡ read_refusal.BadLine k)
+      go (Ok x) p = let q : s ≡ Ok x = rw p at cases in cc
+      go (Err k) p =
+          let q = err_from_is_err_and s (rw p at cases) in
+          let same : q.0 ≡ e = cc (q.1, f) in
+          (k, p, sym same ∙ q.2)
+
+  pub handed_ok : (x : A) → s ≡ Ok x → r ≡ Ok x
+  handed_ok x f = go r refl
+    where
+      go : (o : Result A ℕ) → r ≡ o → r ≡ Ok x
+      go (Ok y) p = let q : s ≡ Ok y = rw p at cases in cc
+      go (Err k) p = let q = err_from_is_err_and s (rw p at cases) in cc (q.1, f)
+
+pub refused_at : (text out : List ℕ) (k : ℕ) (e : ReadRefusal) (r : Result (ℕ × ℕ) ReadRefusal) → r ≡ Err e → e ≡ read_refusal.BadLine k
+    → Err k ≡ verdict_of 1 Opening no_bits (split_of text) → (r, out) ≡ read_into_of text out
+unfolding read_into_of read_of
+refused_at text out k e r f g h = rw (f, g, ← h)

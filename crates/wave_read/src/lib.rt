@@ -4,7 +4,7 @@
 // function but `read` is a part: it may have a `requires`, which its callers prove.
 #![tactic(auto)]
 
-ghost use Rattle.std.specs.Prelude.{◌≡◌, ◌+◌, ◌*◌, ◌≤◌, [], ◌∷◌, length, drop, replicate};
+ghost use Rattle.std.specs.Prelude.{◌≡◌, ◌+◌, ◌*◌, ◌<◌, ◌≤◌, IfSome, [], ◌∷◌, length, drop, replicate};
 ghost use Rattle.std.proofs.lemmas.List.Edits.{sets};
 ghost use Rattle.wave_rules.specs.Lines.{split_of};
 ghost use Rattle.wave_rules.specs.Dump.{no_bits};
@@ -13,30 +13,23 @@ ghost use Rattle.wave_rules.specs.Reader.{read as Reader·read};
 ghost use Rattle.wave_rules.specs.Calls.{answered, read_into_of};
 ghost use Rattle.wave_rules.specs.declared.Stage.TheVariants.{Opening, Waiting};
 ghost use Rattle.print.specs.Print.{put_of};
-ghost use Rattle.wave_read.specs.Laws.{line_end_of, wrong_of, Headed, OfCells, Right, Begun};
+ghost use Rattle.wave_read.specs.Laws.{line_end_of, Headed, OfCells, Right, Begun};
 
-use wave_rules::{Stage, Undumped, Verdict};
+use wave_rules::{ReadRefusal, Stage};
 
-// Where the line from `at` on ends. The end of the text, if no line feed stands there within 22 bytes: a line of a dump
-// has no more, so what stands behind them is not read.
-fn line_end(text: &[u8], at: usize) -> usize
+// Where the line from `at` on ends, if a line feed stands behind at most 22 bytes: a line of a dump has no more, so
+// what stands behind them is not read.
+fn line_end(text: &[u8], at: usize) -> Option<usize>
     requires { at ≤ length text.now }
     ensures value { result ≡ line_end_of text.now at }
-    ensures lower_bound { (at ≤ result) × (result ≤ length text.now) }
+    ensures lower_bound { IfSome result (λ end. (at ≤ end) × (end < length text.now)) }
 {
-    let left = text.len() - at;
-    if left < 24 {
-        return text::end_of(text, at, 10);
-    }
-    let n = text::end_of(&text[at..at + 23], 0, 10);
-    if n == 23 {
-        return text.len();
-    }
-    at + n
+    let m = (text.len() - at).min(23);
+    let n = text::end_of(&text[at..at + m], 0, b'\n');
+    if n < m { Some(at + n) } else { None }
 }
 
-// Where the changes begin: the place, the number of cells, and that line's number. No cells: the text is wrong, at that
-// line.
+// Where the changes begin: the place, the number of cells, and that line's number.
 #[derive(Clone, Copy)]
 struct Header {
     at: usize,
@@ -44,49 +37,35 @@ struct Header {
     line: usize,
 }
 
-fn wrong(k: usize) -> Header
-    ensures { result ≡ wrong_of k }
-{
-    Header {
-        at: 0,
-        cells: 0,
-        line: k,
-    }
-}
-
-// The lines before the changes: from stage to stage, up to the one that waits for a time.
-fn read_header(text: &[u8]) -> Header
+// The lines before the changes: from stage to stage, up to the one that waits for a time; or the first wrong line.
+// (d) No `for`: each turn finds where its line ends, and with that where the next begins.
+fn read_header(text: &[u8]) -> Result<Header, usize>
     ensures { Headed text.now result }
 {
+    // No `for`: each turn finds where its line ends, and with that where the next begins; so in `scan` and `fill`.
     let mut stage = Stage::Opening;
     let mut at = 0;
     let mut k = 1;
     while at < text.len() {
-        let end = line_end(text, at);
-        if end == text.len() {
-            return wrong(k);
-        }
-        let after = wave_line::next(stage, &text[at..end]);
-        if wave_line::is_lost(after) {
-            return wrong(k);
-        }
-        let cells = wave_line::waits(after);
-        if 0 < cells {
-            return Header {
-                at: end + 1,
-                cells,
-                line: k + 1,
-            };
-        }
-        stage = after;
+        let Some(end) = line_end(text, at) else {
+            return Err(k);
+        };
+        let Some(after) = wave_line::next(stage, &text[at..end]) else {
+            return Err(k);
+        };
         at = end + 1;
         k += 1;
+        if let Stage::Waiting(cells, _) = after {
+            return Ok(Header { at, cells, line: k });
+        }
+        stage = after;
     }
-    wrong(k)
+    Err(k)
 }
 
 // The first wrong line of the changes, which begin at line `first`, or how many cells and steps.
-fn scan(text: &[u8], from: usize, n: usize, first: usize) -> Verdict
+// (d) No `for`: the place moves by the length of what was read.
+fn scan(text: &[u8], from: usize, n: usize, first: usize) -> Result<(usize, usize), usize>
     requires { (n ≤ 94) × (from ≤ length text.now) × (first ≤ from + 1) }
     ensures value { result ≡ verdict_of first (Waiting n 0) no_bits (split_of (drop from text.now)) }
     ensures of_cells { OfCells n result }
@@ -96,26 +75,23 @@ fn scan(text: &[u8], from: usize, n: usize, first: usize) -> Verdict
     let mut at = from;
     let mut k = first;
     while at < text.len() {
-        let time = wave_line::time_at(text, at);
-        if time.value <= last {
-            return Verdict::Bad(k);
-        }
-        if 32768 < time.value {
-            return Verdict::Bad(k);
+        let Some(time) = wave_line::time_at(text, at) else {
+            return Err(k);
+        };
+        if time.value <= last || 32768 < time.value {
+            return Err(k);
         }
         let i = time.behind;
-        if wave_line::is_change_at(text, i, n, &bits) {
-            let cell = (text[i + 1] - 33) as usize;
-            let bit = bits[cell];
-            bits[cell] = wave_write::turned(bit);
-            last = time.value;
-            at = i + 3;
-            k += 2;
-        } else {
-            return Verdict::Bad(k + 1);
+        if !wave_line::is_change_at(text, i, n, &bits) {
+            return Err(k + 1);
         }
+        let cell = usize::from(text[i + 1] - b'!');
+        bits[cell] = wave_write::turned(bits[cell]);
+        last = time.value;
+        at = i + 3;
+        k += 2;
     }
-    Verdict::Fine(n, last)
+    Ok((n, last))
 }
 
 // ---- the script
@@ -125,14 +101,8 @@ fn put_zeros(out: &mut [u32], at: usize, count: usize) -> usize
     requires { at + count ≤ length out.old }
     ensures { (result, out.new) ≡ put_of out.old at (replicate count 0) }
 {
-    let mut n = at;
-    let mut i = 0;
-    while i < count {
-        out[n] = 0;
-        n += 1;
-        i += 1;
-    }
-    n
+    out[at..at + count].fill(0);
+    at + count
 }
 
 // A take or a release: "other words 0".
@@ -146,14 +116,12 @@ fn put_step(out: &mut [u32], at: usize, kind: u32, cell: u32) -> usize
     at + 3
 }
 
-// "a take sets its cell's bit, a release clears it"
+// "a take sets its cell's bit, a release clears it": numbers, as the script's words and L11's definitions have them
+// (a) Numbers, as the script's words and L11's definitions have them.
 fn kind_for(bit: u8) -> u32
     ensures { result ≡ kind_for bit }
 {
-    if bit == 0 {
-        return 1;
-    }
-    2
+    if bit == 0 { 1 } else { 2 }
 }
 
 // The words of a change: those of the steps that only count, and its own.
@@ -166,6 +134,7 @@ fn put_change(out: &mut [u32], at: usize, gap: usize, kind: u32, cell: u32) -> u
 }
 
 // The words of changes that are right: no line is tested again.
+// (d) No `for`: the place moves by the length of what was read.
 fn fill(text: &[u8], from: usize, n: usize, out: &mut [u32])
     requires { (n ≤ 94) × (from ≤ length text.now) × Right text.now from n 0 no_bits ×
         (length (script_words_of (Waiting n 0) no_bits (split_of (drop from text.now))) ≤ length out.old) }
@@ -180,7 +149,7 @@ fn fill(text: &[u8], from: usize, n: usize, out: &mut [u32])
         let time = wave_line::time_in(text, at);
         let t = time.value;
         let i = time.behind;
-        let cell = (text[i + 1] - 33) as usize;
+        let cell = usize::from(text[i + 1] - b'!');
         let bit = bits[cell];
         used = put_change(out, used, t - 1 - last, kind_for(bit), cell as u32);
         bits[cell] = wave_write::turned(bit);
@@ -190,30 +159,29 @@ fn fill(text: &[u8], from: usize, n: usize, out: &mut [u32])
 }
 
 // The script of a text that is fine, with its changes from `from` on, if there is room for all of it.
-fn give(text: &[u8], from: usize, n: usize, last: usize, out: &mut [u32]) -> Undumped
+fn give(
+    text: &[u8],
+    from: usize,
+    n: usize,
+    last: usize,
+    out: &mut [u32],
+) -> Result<(usize, usize), ReadRefusal>
     requires { Begun text.now from n last }
     ensures { (result, out.new)
         ≡ answered (Reader·read n (script_words_of Opening no_bits (split_of text.now))) out.old }
 {
     if out.len() / 3 < last {
-        return Undumped::NoRoom;
+        return Err(ReadRefusal::NoRoom);
     }
     fill(text, from, n, out);
-    Undumped::Read(n, last)
+    Ok((n, last))
 }
 
 // The call: the number of cells and a script, into a lent buffer; or the first wrong line.
-pub fn read(text: &[u8], out: &mut [u32]) -> Undumped
+pub fn read(text: &[u8], out: &mut [u32]) -> Result<(usize, usize), ReadRefusal>
     ensures { (result, out.new) ≡ read_into_of text.now out.old }
 {
-    let head = read_header(text);
-    let cells = head.cells;
-    if cells == 0 {
-        return Undumped::BadLine(head.line);
-    }
-    let verdict = scan(text, head.at, cells, head.line);
-    match verdict {
-        Verdict::Bad(k) => Undumped::BadLine(k),
-        Verdict::Fine(n, last) => give(text, head.at, n, last, out),
-    }
+    let head = read_header(text).map_err(ReadRefusal::BadLine)?;
+    let (n, last) = scan(text, head.at, head.cells, head.line).map_err(ReadRefusal::BadLine)?;
+    give(text, head.at, n, last, out)
 }

@@ -1,11 +1,11 @@
 -- Document 02, L11, the two calls: the answer, and the lent buffer afterwards.
-use Rattle.std.specs.Prelude.{ℕ, ◌/◌, List, Bool, ◌||◌, eqb, ltb, length, if◌then◌else◌}
+use Rattle.std.specs.Prelude.{ℕ, ◌/◌, List, Bool, ◌||◌, eqb, ltb, length, if◌then◌else◌, Result, Ok, Err}
 use Rattle.std.proofs.lemmas.List.Edits.{sets}
 use Rattle.model.specs.Checks.{bad_script}
-use Rattle.wave_rules.specs.declared.Dumped.{Dumped}
-use Rattle.wave_rules.specs.declared.Dumped.TheVariants as dumped
-use Rattle.wave_rules.specs.declared.Undumped.{Undumped}
-use Rattle.wave_rules.specs.declared.Undumped.TheVariants as undumped
+use Rattle.wave_rules.specs.declared.WriteRefusal.{WriteRefusal}
+use Rattle.wave_rules.specs.declared.WriteRefusal.TheVariants as write_refusal
+use Rattle.wave_rules.specs.declared.ReadRefusal.{ReadRefusal}
+use Rattle.wave_rules.specs.declared.ReadRefusal.TheVariants as read_refusal
 use Rattle.wave_rules.specs.Dump.{dump_of}
 use Rattle.wave_rules.specs.Reader.{Reading, read, refused, read_of}
 
@@ -18,25 +18,25 @@ unfoldable pub too_wide : ℕ → Bool
 too_wide n = eqb n 0 || ltb 94 n
 
 -- "A lent buffer too short for the whole dump ..: NoRoom, nothing written." Bytes behind the dump are left alone.
-unfoldable pub fitted_of : ℕ → List ℕ → List ℕ → Dumped × List ℕ
+unfoldable pub fitted_of : ℕ → List ℕ → List ℕ → Result ℕ WriteRefusal × List ℕ
 fitted_of n script out =
-    if ltb (length out) (length (dump_of n script)) then (dumped.NoRoom, out) else
-    (dumped.Written (length (dump_of n script)), sets out 0 (dump_of n script))
+    if ltb (length out) (length (dump_of n script)) then (Err write_refusal.NoRoom, out) else
+    (Ok (length (dump_of n script)), sets out 0 (dump_of n script))
 
 -- the writer: 2, TooWide, NoRoom, in this order
-unfoldable pub write_of : ℕ → List ℕ → List ℕ → Dumped × List ℕ
+unfoldable pub write_of : ℕ → List ℕ → List ℕ → Result ℕ WriteRefusal × List ℕ
 write_of n script out =
-    if bad_history script then (dumped.BadScript, out) else
-    if too_wide n then (dumped.TooWide, out) else
+    if bad_history script then (Err write_refusal.BadScript, out) else
+    if too_wide n then (Err write_refusal.TooWide, out) else
     fitted_of n script out
 
 -- the reader: "anything else is refused, before NoRoom, with its first wrong line"; "A lent buffer too short for the
 -- whole .. reading: NoRoom, nothing written." Words behind the script are left alone.
-abbrev pub answered : Reading → List ℕ → Undumped × List ℕ
-answered (refused k) out = (undumped.BadLine k, out)
+abbrev pub answered : Reading → List ℕ → Result (ℕ × ℕ) ReadRefusal × List ℕ
+answered (refused k) out = (Err (read_refusal.BadLine k), out)
 answered (read n script) out =
-    if ltb (length out) (length script) then (undumped.NoRoom, out) else
-    (undumped.Read n (length script / 3), sets out 0 script)
+    if ltb (length out) (length script) then (Err read_refusal.NoRoom, out) else
+    (Ok (n, length script / 3), sets out 0 script)
 
-unfoldable pub read_into_of : List ℕ → List ℕ → Undumped × List ℕ
+unfoldable pub read_into_of : List ℕ → List ℕ → Result (ℕ × ℕ) ReadRefusal × List ℕ
 read_into_of text out = answered (read_of text) out

@@ -1,8 +1,8 @@
 -- Document 02's dump, to the byte; and a computed case for each of its sentences.
-use Rattle.std.specs.Prelude.{ℕ, ◌≡◌, refl, List, [], ◌∷◌, ◌++◌, replicate}
+use Rattle.std.specs.Prelude.{ℕ, ◌≡◌, refl, List, [], ◌∷◌, ◌++◌, replicate, Ok, Err}
 use Rattle.text.specs.Text.{is_digit, digits_in, value_from, ended_number_of, read_number_of}
-use Rattle.wave_rules.specs.declared.Dumped.TheVariants as dumped
-use Rattle.wave_rules.specs.declared.Undumped.TheVariants as undumped
+use Rattle.wave_rules.specs.declared.WriteRefusal.TheVariants as write_refusal
+use Rattle.wave_rules.specs.declared.ReadRefusal.TheVariants as read_refusal
 use Rattle.wave_rules.specs.Calls.{bad_history, too_wide, fitted_of, write_of, read_into_of}
 use Rattle.text.specs.Decimal.{digit_count_in, digit_count, decimal_of}
 use Rattle.wave_rules.specs.Lines.{joined, split_of, same}
@@ -51,17 +51,17 @@ unfolding joined decimal_of digit_count digit_count_in no_bits turns changes_of 
 last_code = refl
 
 -- "(else 2, first)": a script of one word, and no cells
-script_first : write_of 0 (1 ∷ []) (7 ∷ []) ≡ (dumped.BadScript, (7 ∷ []))
+script_first : write_of 0 (1 ∷ []) (7 ∷ []) ≡ (Err write_refusal.BadScript, (7 ∷ []))
 unfolding write_of fitted_of bad_history too_wide joined decimal_of digit_count digit_count_in no_bits turns changes_of flip_of timescale scope_line var_line upscope end_line time_line bit_line each_of body_of middle_of lines_of dump_of
 script_first = refl
 
 -- "No cells or more than 94: refused TooWide"
-no_cells : write_of 0 [] (7 ∷ []) ≡ (dumped.TooWide, (7 ∷ []))
+no_cells : write_of 0 [] (7 ∷ []) ≡ (Err write_refusal.TooWide, (7 ∷ []))
 unfolding write_of fitted_of bad_history too_wide joined decimal_of digit_count digit_count_in no_bits turns changes_of flip_of timescale scope_line var_line upscope end_line time_line bit_line each_of body_of middle_of lines_of dump_of
 no_cells = refl
 
 -- more than 94
-cells_95 : write_of 95 [] (7 ∷ []) ≡ (dumped.TooWide, (7 ∷ []))
+cells_95 : write_of 95 [] (7 ∷ []) ≡ (Err write_refusal.TooWide, (7 ∷ []))
 unfolding write_of fitted_of bad_history too_wide joined decimal_of digit_count digit_count_in no_bits turns changes_of flip_of timescale scope_line var_line upscope end_line time_line bit_line each_of body_of middle_of lines_of dump_of
 cells_95 = refl
 
@@ -77,12 +77,12 @@ short =
     48 ∷ 33 ∷ 10 ∷ []
 
 -- "A lent buffer too short for the whole dump ..: NoRoom, nothing written": one byte too short
-one_short : write_of 1 [] (replicate 104 7) ≡ (dumped.NoRoom, replicate 104 7)
+one_short : write_of 1 [] (replicate 104 7) ≡ (Err write_refusal.NoRoom, replicate 104 7)
 unfolding write_of fitted_of bad_history too_wide joined decimal_of digit_count digit_count_in no_bits turns changes_of flip_of timescale scope_line var_line upscope end_line time_line bit_line each_of body_of middle_of lines_of dump_of
 one_short = refl
 
 -- and two bytes longer: they are left alone
-left_alone : write_of 1 [] (replicate 107 7) ≡ (dumped.Written 105, short ++ (7 ∷ 7 ∷ []))
+left_alone : write_of 1 [] (replicate 107 7) ≡ (Ok 105, short ++ (7 ∷ 7 ∷ []))
 unfolding write_of fitted_of bad_history too_wide joined decimal_of digit_count digit_count_in no_bits turns changes_of flip_of timescale scope_line var_line upscope end_line time_line bit_line each_of body_of middle_of lines_of dump_of
 left_alone = refl
 
@@ -159,16 +159,16 @@ unfolding joined each_of read_of script_words_of idle verdict_of is_change is_ti
 too_many_lem = refl
 
 -- "refused, before NoRoom, with its first wrong line"
-line_first : read_into_of (paper ++ (35 ∷ 49 ∷ 10 ∷ 49 ∷ 33 ∷ [])) [] ≡ (undumped.BadLine 11, [])
+line_first : read_into_of (paper ++ (35 ∷ 49 ∷ 10 ∷ 49 ∷ 33 ∷ [])) [] ≡ (Err (read_refusal.BadLine 11), [])
 unfolding read_into_of read_of script_words_of idle verdict_of is_change is_time after_value after_variable cell_in time_in split_of same no_bits turns changes_of flip_of timescale scope_line var_line upscope end_line time_line bit_line decimal_of digit_count digit_count_in is_digit digits_in value_from ended_number_of read_number_of
 line_first = refl
 
 -- "A lent buffer too short for the whole .. reading: NoRoom, nothing written"
-two_words : read_into_of (paper ++ (35 ∷ 49 ∷ 10 ∷ 49 ∷ 33 ∷ 10 ∷ [])) (8 ∷ 8 ∷ []) ≡ (undumped.NoRoom, (8 ∷ 8 ∷ []))
+two_words : read_into_of (paper ++ (35 ∷ 49 ∷ 10 ∷ 49 ∷ 33 ∷ 10 ∷ [])) (8 ∷ 8 ∷ []) ≡ (Err read_refusal.NoRoom, (8 ∷ 8 ∷ []))
 unfolding read_into_of read_of script_words_of idle verdict_of is_change is_time after_value after_variable cell_in time_in split_of same no_bits turns changes_of flip_of timescale scope_line var_line upscope end_line time_line bit_line decimal_of digit_count digit_count_in is_digit digits_in value_from ended_number_of read_number_of
 two_words = refl
 
 -- two words longer: they are left alone
-five_words : read_into_of (paper ++ (35 ∷ 49 ∷ 10 ∷ 49 ∷ 33 ∷ 10 ∷ [])) (8 ∷ 8 ∷ 8 ∷ 8 ∷ 8 ∷ []) ≡ (undumped.Read 2 1, (1 ∷ 0 ∷ 0 ∷ 8 ∷ 8 ∷ []))
+five_words : read_into_of (paper ++ (35 ∷ 49 ∷ 10 ∷ 49 ∷ 33 ∷ 10 ∷ [])) (8 ∷ 8 ∷ 8 ∷ 8 ∷ 8 ∷ []) ≡ (Ok (2, 1), (1 ∷ 0 ∷ 0 ∷ 8 ∷ 8 ∷ []))
 unfolding read_into_of read_of script_words_of idle verdict_of is_change is_time after_value after_variable cell_in time_in split_of same no_bits turns changes_of flip_of timescale scope_line var_line upscope end_line time_line bit_line decimal_of digit_count digit_count_in is_digit digits_in value_from ended_number_of read_number_of
 five_words = refl

@@ -1,15 +1,13 @@
 -- What the reader accepts is, byte for byte, the dump of what it gave.
-use Rattle.std.specs.Prelude.{ℕ, zero, suc, ◌+◌, ◌*◌, ◌-◌, ◌≤◌, ◌<◌, ◌≡◌, refl, List, ◌∷◌, Bool, true, false, eqb, ltb, leb, length, get_or, if◌then◌else◌}
+use Rattle.std.specs.Prelude.{ℕ, zero, suc, ◌+◌, ◌*◌, ◌-◌, ◌≤◌, ◌<◌, ◌≡◌, refl, List, ◌∷◌, Bool, true, false, eqb, ltb, leb, length, get_or, if◌then◌else◌, Ok, Err, [], Some, None}
 use Rattle.std.proofs.Common.{sym, ap, ◌∙◌, arith, lt-ltb, ltb-true, ltb-false}
 use Rattle.wave_rules.specs.Lines.{Items, finish, torn, line, split_of, same}
 use Rattle.wave_theory.specs.Texts.{items_of, text_of, text_split, text_items}
-use Rattle.wave_rules.proofs.Stages.{bad_not, nested, time_later, idle_length, onward, same_true}
+use Rattle.wave_rules.proofs.Stages.{both_numbers, bad_not, nested, time_later, idle_length, same_true}
 use Rattle.wave_rules.specs.Dump.{no_bits, turns, turned, changes_of, flip_of, timescale, scope_line, var_line, upscope, end_line, time_line, bit_line, each_of, vars_of, first_of, body_of, middle_of, lines_of, dump_of, Dumpable}
 use Rattle.wave_rules.specs.declared.Stage.{Stage}
-use Rattle.wave_rules.specs.declared.Stage.TheVariants.{Opening, Scope, Variables, Ending, Start, Values, Waiting, Changing, Lost}
-use Rattle.wave_rules.specs.declared.Verdict.{Verdict}
-use Rattle.wave_rules.specs.declared.Verdict.TheVariants.{Fine, Bad}
-use Rattle.wave_rules.specs.Reader.{time_in, cell_in, after_variable, after_value, is_time, is_change, unless, verdict_of, idle, kind_for, script_words_of, read, reading_of, read_of}
+use Rattle.wave_rules.specs.declared.Stage.TheVariants.{Opening, Scope, Variables, Ending, Start, Values, Waiting, Changing}
+use Rattle.wave_rules.specs.Reader.{Verdict, time_in, cell_in, after_variable, after_value, is_time, is_change, unless, verdict_of, idle, kind_for, script_words_of, read, reading_of, read_of}
 use Rattle.wave_theory.specs.Round.{still}
 
 -- ---- what a line was
@@ -41,9 +39,9 @@ change_read n bits x e =
 
 -- one test, and one stage behind it
 chosen : (b : Bool) (s : Stage) (k n last : ℕ) (bits : List ℕ) (r : Items)
-    → unless (if b then s else Lost) k (verdict_of (k + 1) (if b then s else Lost) bits r) ≡ Fine n last
-    → (b ≡ true) × (verdict_of (k + 1) s bits r ≡ Fine n last)
-chosen true s k n last bits r e = (refl, onward s k n last (verdict_of (k + 1) s bits r) e)
+    → unless (if b then Some s else None) (Err k) (λ t. verdict_of (k + 1) t bits r) ≡ Ok (n, last)
+    → (b ≡ true) × (verdict_of (k + 1) s bits r ≡ Ok (n, last))
+chosen true s k n last bits r e = (refl, e)
 chosen false s k n last bits r e = bad_not e
 
 -- ---- the changes
@@ -85,9 +83,9 @@ pub record Image (n last : ℕ) (bits : List ℕ) (r : Items) (m e : ℕ) (w : L
   pub is : r ≡ items_of (body_of n (last + 1) bits w)
 
 image_body : (r : Items) (k n last m e : ℕ) (bits : List ℕ) → last ≤ 32768
-    → verdict_of k (Waiting n last) bits r ≡ Fine m e → Image n last bits r m e (script_words_of (Waiting n last) bits r)
+    → verdict_of k (Waiting n last) bits r ≡ Ok (m, e) → Image n last bits r m e (script_words_of (Waiting n last) bits r)
 unfolding verdict_of script_words_of body_of items_of
-image_body finish k n last m e bits h v = let z : last ≡ e = cc in record { cells = cc; early = omega arith; size = omega arith; is = refl }
+image_body finish k n last m e bits h v = let z = both_numbers n last m e v in record { cells = sym z.0; early = omega (arith, z.1); size = omega (arith, z.1); is = refl }
 image_body (torn x) k n last m e bits h v = bad_not v
 image_body (line x finish) k n last m e bits h v = bad_not (chosen (is_time last x) (Changing n last (time_in x)) k m e bits finish v).1
 image_body (line x (torn y)) k n last m e bits h v = bad_not (chosen (is_time last x) (Changing n last (time_in x)) k m e bits (torn y) v).1
@@ -115,7 +113,7 @@ pub record Headed (r : Items) (m e : ℕ) (w : List ℕ) (ls : List (List ℕ)) 
   pub size : length w ≡ 3 * e
   pub is : r ≡ items_of ls
 
-image_values : (r : Items) (k n c m e : ℕ) (bits : List ℕ) → c < n → verdict_of k (Values n c) bits r ≡ Fine m e
+image_values : (r : Items) (k n c m e : ℕ) (bits : List ℕ) → c < n → verdict_of k (Values n c) bits r ≡ Ok (m, e)
     → (m ≡ n) × Headed r m e (script_words_of (Values n c) bits r) (first_of c (n - c) (body_of n 1 bits (script_words_of (Values n c) bits r)))
 unfolding verdict_of script_words_of items_of after_value each_of
 image_values finish k n c m e bits h v = bad_not v
@@ -126,9 +124,9 @@ image_values (line x r) k n c m e bits h v =
     rw a.0 (go (ltb (c + 1) n) refl (same_true x (bit_line 0 c) a.0) (λ l u. image_values r (k + 1) n (c + 1) m e bits l u) a.1)
   where
     go : (b : Bool) → ltb (c + 1) n ≡ b → x ≡ bit_line 0 c
-        → (c + 1 < n → verdict_of (k + 1) (Values n (c + 1)) bits r ≡ Fine m e
+        → (c + 1 < n → verdict_of (k + 1) (Values n (c + 1)) bits r ≡ Ok (m, e)
         → (m ≡ n) × Headed r m e (script_words_of (Values n (c + 1)) bits r) (first_of (c + 1) (n - (c + 1)) (body_of n 1 bits (script_words_of (Values n (c + 1)) bits r))))
-        → verdict_of (k + 1) (if b then Values n (c + 1) else Waiting n 0) bits r ≡ Fine m e
+        → verdict_of (k + 1) (if b then Values n (c + 1) else Waiting n 0) bits r ≡ Ok (m, e)
         → (m ≡ n) × Headed (line x r) m e (script_words_of (if b then Values n (c + 1) else Waiting n 0) bits r) (first_of c (n - c) (body_of n 1 bits (script_words_of (if b then Values n (c + 1) else Waiting n 0) bits r)))
     go true p q f u =
         let i = f (ltb-true (c + 1) n p) u in
@@ -139,7 +137,7 @@ image_values (line x r) k n c m e bits h v =
         let z : n - c ≡ suc 0 = omega (arith, ltb-false (c + 1) n p) in
         (i.cells, record { early = i.early; size = omega (arith, i.size); is = rw z (cc (q, i.is)) })
 
-image_ending : (r : Items) (k n m e : ℕ) (bits : List ℕ) → 0 < n → verdict_of k (Ending n) bits r ≡ Fine m e
+image_ending : (r : Items) (k n m e : ℕ) (bits : List ℕ) → 0 < n → verdict_of k (Ending n) bits r ≡ Ok (m, e)
     → (m ≡ n) × Headed r m e (script_words_of (Ending n) bits r) (end_line ∷ time_line 0 ∷ first_of 0 n (body_of n 1 bits (script_words_of (Ending n) bits r)))
 unfolding verdict_of script_words_of items_of
 image_ending finish k n m e bits h v = bad_not v
@@ -160,7 +158,7 @@ pub record Varied (n : ℕ) (r : Items) (m e : ℕ) (w : List ℕ) (ls : List (L
   pub least : n ≤ m
   pub headed : Headed r m e w ls
 
-image_vars : (r : Items) (k n m e : ℕ) (bits : List ℕ) → n ≤ 94 → verdict_of k (Variables n) bits r ≡ Fine m e
+image_vars : (r : Items) (k n m e : ℕ) (bits : List ℕ) → n ≤ 94 → verdict_of k (Variables n) bits r ≡ Ok (m, e)
     → Varied n r m e (script_words_of (Variables n) bits r) (vars_of n (m - n) (middle_of m (body_of m 1 bits (script_words_of (Variables n) bits r))))
 unfolding verdict_of script_words_of items_of after_variable each_of middle_of
 image_vars finish k n m e bits h v = bad_not v
@@ -170,10 +168,10 @@ image_vars (line x r) k n m e bits h v =
   where
     go : (a b : Bool) → (if ltb n 94 then same x (var_line n) else false) ≡ a
         → (if ltb 0 n then same x upscope else false) ≡ b
-        → (n + 1 ≤ 94 → verdict_of (k + 1) (Variables (n + 1)) bits r ≡ Fine m e
+        → (n + 1 ≤ 94 → verdict_of (k + 1) (Variables (n + 1)) bits r ≡ Ok (m, e)
         → Varied (n + 1) r m e (script_words_of (Variables (n + 1)) bits r) (vars_of (n + 1) (m - (n + 1)) (middle_of m (body_of m 1 bits (script_words_of (Variables (n + 1)) bits r)))))
-        → unless (if a then Variables (n + 1) else if b then Ending n else Lost) k (verdict_of (k + 1) (if a then Variables (n + 1) else if b then Ending n else Lost) bits r) ≡ Fine m e
-        → Varied n (line x r) m e (script_words_of (if a then Variables (n + 1) else if b then Ending n else Lost) bits r) (vars_of n (m - n) (middle_of m (body_of m 1 bits (script_words_of (if a then Variables (n + 1) else if b then Ending n else Lost) bits r))))
+        → unless (if a then Some (Variables (n + 1)) else if b then Some (Ending n) else None) (Err k) (λ t. verdict_of (k + 1) t bits r) ≡ Ok (m, e)
+        → Varied n (line x r) m e (unless (if a then Some (Variables (n + 1)) else if b then Some (Ending n) else None) [] (λ t. script_words_of t bits r)) (vars_of n (m - n) (middle_of m (body_of m 1 bits (unless (if a then Some (Variables (n + 1)) else if b then Some (Ending n) else None) [] (λ t. script_words_of t bits r)))))
     go true b p q f u =
         let t = nested (ltb n 94) (same x (var_line n)) p in
         let i = f (omega (arith, ltb-true n 94 t.0)) u in
@@ -191,7 +189,7 @@ image_vars (line x r) k n m e bits h v =
 -- ---- the whole
 
 -- the lines that are accepted are those of a dump
-pub image_lines : (r : Items) (m e : ℕ) (bits : List ℕ) → bits ≡ no_bits → verdict_of 1 Opening bits r ≡ Fine m e
+pub image_lines : (r : Items) (m e : ℕ) (bits : List ℕ) → bits ≡ no_bits → verdict_of 1 Opening bits r ≡ Ok (m, e)
     → (Dumpable m (script_words_of Opening bits r)) × (r ≡ items_of (lines_of m (script_words_of Opening bits r))) × (length (script_words_of Opening bits r) ≡ 3 * e)
 unfolding verdict_of script_words_of items_of lines_of
 image_lines finish m e bits o v = bad_not v
@@ -215,8 +213,8 @@ image text n script = go (verdict_of 1 Opening no_bits (split_of text)) refl
     go : (v : Verdict) → verdict_of 1 Opening no_bits (split_of text) ≡ v
         → reading_of v (script_words_of Opening no_bits (split_of text)) ≡ read n script
         → (Dumpable n script) × (dump_of n script ≡ text)
-    go (Bad k) e f = let w : ◌≡◌ {A = ℕ} 0 1 = cc in absurd (omega arith)
-    go (Fine m l) e f =
+    go (Err k) e f = let w : ◌≡◌ {A = ℕ} 0 1 = cc in absurd (omega arith)
+    go (Ok (m, l)) e f =
         let i = image_lines (split_of text) m l no_bits refl e in
         let p : m ≡ n = cc in
         let q : script_words_of Opening no_bits (split_of text) ≡ script = cc in

@@ -1,10 +1,9 @@
 -- What was written reads back: n, and a script with the same bits at every step.
-use Rattle.std.specs.Prelude.{ℕ, zero, suc, ◌+◌, ◌*◌, ◌-◌, ◌%◌, ◌/◌, ◌≤◌, ◌<◌, ◌≡◌, refl, ◌≢◌, List, [], ◌∷◌, ◌++◌, Bool, true, false, eqb, ltb, length, get_or, if◌then◌else◌}
+use Rattle.std.specs.Prelude.{ℕ, zero, suc, ◌+◌, ◌*◌, ◌-◌, ◌%◌, ◌/◌, ◌≤◌, ◌<◌, ◌≡◌, refl, ◌≢◌, List, [], ◌∷◌, ◌++◌, Bool, true, false, eqb, ltb, length, get_or, if◌then◌else◌, Ok, Some}
 use Rattle.std.proofs.Common.{sym, ap, ◌∙◌, append_assoc, append-nil, arith}
 use borrow.Author.Tests.{eqb-true, ne_eqb, lt-ltb, le-ltb, le-leb}
 use Rattle.io.specs.Digits.{hex_digit_ascii, last_digits}
-use Rattle.text.specs.declared.Number.{Number}
-use Rattle.text.specs.Text.{digits_in}
+use Rattle.text.specs.Text.{digits_in, value_read}
 use Rattle.text.specs.Decimal.{decimal_of, digit_count}
 use Rattle.text.specs.Back.{glyph_is, number_back}
 use Rattle.wave_rules.specs.Lines.{Items, line, same}
@@ -14,9 +13,7 @@ use Rattle.wave_rules.proofs.Stages.{changes_in_lem, same_refl}
 use Rattle.wave_rules.specs.Dump.{no_bits, turns, turned, changes_of, flip_of, timescale, scope_line, var_line, upscope, end_line, time_line, bit_line, each_of, vars_of, first_of, body_of, middle_of, lines_of, dump_of, Dumpable}
 use Rattle.wave_rules.specs.declared.Stage.{Stage}
 use Rattle.wave_rules.specs.declared.Stage.TheVariants.{Opening, Scope, Variables, Ending, Start, Values, Waiting, Changing}
-use Rattle.wave_rules.specs.declared.Verdict.{Verdict}
-use Rattle.wave_rules.specs.declared.Verdict.TheVariants.{Fine}
-use Rattle.wave_rules.specs.Reader.{time_in, cell_in, after_variable, after_value, is_time, is_change, next_of, bits_of, unless, verdict_of, idle, kind_for, script_words_at, script_words_of, read, read_of}
+use Rattle.wave_rules.specs.Reader.{Verdict, time_in, cell_in, after_variable, after_value, is_time, is_change, next_of, bits_of, verdict_of, idle, kind_for, script_words_at, script_words_of, read, read_of}
 
 -- ---- the script that is read back: each change as a take or a release, the steps between as steps that only count, and nothing behind the last change
 
@@ -38,7 +35,7 @@ last_of n t last bits (kind ∷ cell ∷ number ∷ rest) = if changes_of n bits
 
 time_in_lem : (t : ℕ) → t < 100000 → time_in (time_line t) ≡ t
 unfolding time_in time_line digits_in
-time_in_lem t h = ap (λ (o : Number). o.value) (rw (append-nil (decimal_of t)) at (number_back t [] (omega arith) refl))
+time_in_lem t h = ap value_read (rw (append-nil (decimal_of t)) at (number_back t [] (omega arith) refl))
 
 is_time_lem : (last t : ℕ) → last < t → t ≤ 32768 → is_time last (time_line t) ≡ true
 unfolding is_time
@@ -59,10 +56,10 @@ pub record Reads (s : Stage) (bits : List ℕ) (r : Items) (v : Verdict) (w : Li
   pub wrote : script_words_of s bits r ≡ w
 
 module _ (s next : Stage) (bits x : List ℕ) (r : Items) (v : Verdict) (w : List ℕ) where
-  pub reads_on : next_of s bits x ≡ next → ((k : ℕ) → unless next k v ≡ v) → Reads next (bits_of s bits x) r v w
+  pub reads_on : next_of s bits x ≡ Some next → Reads next (bits_of s bits x) r v w
       → Reads s bits (line x r) v (script_words_at s bits x w)
   unfolding verdict_of script_words_of
-  reads_on e keep q = record { told = λ j. rw (e, q.told (j + 1)) (keep j); wrote = rw (e, q.wrote) }
+  reads_on e q = record { told = λ j. rw (e, q.told (j + 1)); wrote = rw (e, q.wrote) }
 
 -- ---- the changes
 
@@ -72,19 +69,19 @@ module _ (n last t c : ℕ) (bits : List ℕ) (r : Items) (v : Verdict) (w : Lis
   change_line q =
       let x : List ℕ = bit_line (turned (get_or bits c 0)) c in
       let e : cell_in x ≡ c = cell_in_lem (turned (get_or bits c 0)) c in
-      let f : next_of (Changing n last t) bits x ≡ Waiting n t = rw (is_change_lem n bits c cell) in
+      let f : next_of (Changing n last t) bits x ≡ Some (Waiting n t) = rw (is_change_lem n bits c cell) in
       let q' : Reads (Waiting n t) (flip_of bits (cell_in x)) r v w = rw e q in
-      rw e at (reads_on (Changing n last t) (Waiting n t) bits x r v w f (λ k. refl) q')
+      rw e at (reads_on (Changing n last t) (Waiting n t) bits x r v w f q')
 
   reads_change : Reads (Waiting n t) (flip_of bits c) r v w
       → Reads (Waiting n last) bits (line (time_line t) (line (bit_line (turned (get_or bits c 0)) c) r)) v (idle (t - (last + 1)) (kind_for (get_or bits c 0) ∷ c ∷ 0 ∷ w))
   reads_change q =
-      let f : next_of (Waiting n last) bits (time_line t) ≡ Changing n last t = rw (is_time_lem last t later early, time_in_lem t (omega arith)) in
-      reads_on (Waiting n last) (Changing n last t) bits (time_line t) (line (bit_line (turned (get_or bits c 0)) c) r) v (idle (t - (last + 1)) (kind_for (get_or bits c 0) ∷ c ∷ 0 ∷ w)) f (λ k. refl) (change_line q)
+      let f : next_of (Waiting n last) bits (time_line t) ≡ Some (Changing n last t) = rw (is_time_lem last t later early, time_in_lem t (omega arith)) in
+      reads_on (Waiting n last) (Changing n last t) bits (time_line t) (line (bit_line (turned (get_or bits c 0)) c) r) v (idle (t - (last + 1)) (kind_for (get_or bits c 0) ∷ c ∷ 0 ∷ w)) f (change_line q)
 
 -- the changes of a script from step t on
 reads_body : (n t last : ℕ) (bits script : List ℕ) → last < t → 3 * t + length script ≤ 98307
-    → Reads (Waiting n last) bits (items_of (body_of n t bits script)) (Fine n (last_of n t last bits script)) (trim_of n (t - (last + 1)) bits script)
+    → Reads (Waiting n last) bits (items_of (body_of n t bits script)) (Ok (n, last_of n t last bits script)) (trim_of n (t - (last + 1)) bits script)
 unfolding body_of last_of trim_of items_of verdict_of script_words_of
 reads_body n t last bits [] h m = record { told = λ j. refl; wrote = refl }
 reads_body n t last bits (kind ∷ []) h m = record { told = λ j. refl; wrote = refl }
@@ -93,11 +90,11 @@ reads_body n t last bits (kind ∷ cell ∷ number ∷ rest) h m =
     go (changes_of n bits kind cell) refl (reads_body n (t + 1) t (flip_of bits cell) rest (omega arith) (omega arith)) (reads_body n (t + 1) last bits rest (omega arith) (omega arith))
   where
     go : (b : Bool) → changes_of n bits kind cell ≡ b
-        → Reads (Waiting n t) (flip_of bits cell) (items_of (body_of n (t + 1) (flip_of bits cell) rest)) (Fine n (last_of n (t + 1) t (flip_of bits cell) rest)) (trim_of n (t + 1 - (t + 1)) (flip_of bits cell) rest)
-        → Reads (Waiting n last) bits (items_of (body_of n (t + 1) bits rest)) (Fine n (last_of n (t + 1) last bits rest)) (trim_of n (t + 1 - (last + 1)) bits rest)
+        → Reads (Waiting n t) (flip_of bits cell) (items_of (body_of n (t + 1) (flip_of bits cell) rest)) (Ok (n, last_of n (t + 1) t (flip_of bits cell) rest)) (trim_of n (t + 1 - (t + 1)) (flip_of bits cell) rest)
+        → Reads (Waiting n last) bits (items_of (body_of n (t + 1) bits rest)) (Ok (n, last_of n (t + 1) last bits rest)) (trim_of n (t + 1 - (last + 1)) bits rest)
         → Reads (Waiting n last) bits
         (items_of (if b then time_line t ∷ bit_line (turned (get_or bits cell 0)) cell ∷ body_of n (t + 1) (flip_of bits cell) rest else body_of n (t + 1) bits rest))
-        (Fine n (if b then last_of n (t + 1) t (flip_of bits cell) rest else last_of n (t + 1) last bits rest))
+        (Ok (n, if b then last_of n (t + 1) t (flip_of bits cell) rest else last_of n (t + 1) last bits rest))
         (if b then idle (t - (last + 1)) (kind_for (get_or bits cell 0) ∷ cell ∷ 0 ∷ trim_of n 0 (flip_of bits cell) rest) else trim_of n (t - (last + 1) + 1) bits rest)
     go true e p q =
         let z : t + 1 - (t + 1) ≡ 0 = omega arith in
@@ -110,13 +107,13 @@ pub reads_values : (left n c : ℕ) (bits : List ℕ) (ls : List (List ℕ)) (v 
     → Reads (Waiting n 0) bits (items_of ls) v w → Reads (Values n c) bits (items_of (first_of c (suc left) ls)) v w
 unfolding each_of items_of
 reads_values zero n c bits ls v w e q =
-    let f : next_of (Values n c) bits (bit_line 0 c) ≡ Waiting n 0 = unfold after_value in rw (same_refl (bit_line 0 c), le-ltb (c + 1) n (omega arith)) in
-    reads_on (Values n c) (Waiting n 0) bits (bit_line 0 c) (items_of ls) v w f (λ k. refl) q
+    let f : next_of (Values n c) bits (bit_line 0 c) ≡ Some (Waiting n 0) = unfold after_value in rw (same_refl (bit_line 0 c), le-ltb (c + 1) n (omega arith)) in
+    reads_on (Values n c) (Waiting n 0) bits (bit_line 0 c) (items_of ls) v w f q
 reads_values (suc left) n c bits ls v w e q =
-    let f : next_of (Values n c) bits (bit_line 0 c) ≡ Values n (c + 1) = unfold after_value in rw (same_refl (bit_line 0 c), lt-ltb (c + 1) n (omega arith)) in
-    reads_on (Values n c) (Values n (c + 1)) bits (bit_line 0 c) (items_of (first_of (c + 1) (suc left) ls)) v w f (λ k. refl) (reads_values left n (c + 1) bits ls v w (omega arith) q)
+    let f : next_of (Values n c) bits (bit_line 0 c) ≡ Some (Values n (c + 1)) = unfold after_value in rw (same_refl (bit_line 0 c), lt-ltb (c + 1) n (omega arith)) in
+    reads_on (Values n c) (Values n (c + 1)) bits (bit_line 0 c) (items_of (first_of (c + 1) (suc left) ls)) v w f (reads_values left n (c + 1) bits ls v w (omega arith) q)
 
-variable_next : (c : ℕ) → c < 94 → after_variable c (var_line c) ≡ Variables (c + 1)
+variable_next : (c : ℕ) → c < 94 → after_variable c (var_line c) ≡ Some (Variables (c + 1))
 unfolding after_variable
 variable_next c h = rw (lt-ltb c 94 h, same_refl (var_line c))
 
@@ -128,7 +125,7 @@ no_variable c = go (ltb c 94)
     go true = refl
     go false = refl
 
-variable_last : (n : ℕ) → 0 < n → after_variable n upscope ≡ Ending n
+variable_last : (n : ℕ) → 0 < n → after_variable n upscope ≡ Some (Ending n)
 unfolding after_variable
 variable_last n h = rw (no_variable n, lt-ltb 0 n h, same_refl upscope)
 
@@ -139,9 +136,9 @@ unfolding each_of items_of
 reads_vars zero n c bits ls v w e a b q =
     let z : n ≡ c = omega arith in
     let q' : Reads (Ending c) bits (items_of ls) v w = rw z at q in
-    reads_on (Variables c) (Ending c) bits upscope (items_of ls) v w (variable_last c (omega arith)) (λ k. refl) q'
+    reads_on (Variables c) (Ending c) bits upscope (items_of ls) v w (variable_last c (omega arith)) q'
 reads_vars (suc left) n c bits ls v w e a b q =
-    reads_on (Variables c) (Variables (c + 1)) bits (var_line c) (items_of (vars_of (c + 1) left (upscope ∷ ls))) v w (variable_next c (omega arith)) (λ k. refl) (reads_vars left n (c + 1) bits ls v w (omega arith) a b q)
+    reads_on (Variables c) (Variables (c + 1)) bits (var_line c) (items_of (vars_of (c + 1) left (upscope ∷ ls))) v w (variable_next c (omega arith)) (reads_vars left n (c + 1) bits ls v w (omega arith) a b q)
 
 -- from the end of the definitions to the first time line
 pub reads_ending : (n : ℕ) (bits : List ℕ) (ls : List (List ℕ)) (v : Verdict) (w : List ℕ) → 1 ≤ n
@@ -150,10 +147,10 @@ pub reads_ending : (n : ℕ) (bits : List ℕ) (ls : List (List ℕ)) (v : Verdi
 unfolding items_of
 reads_ending zero bits ls v w h q = absurd (omega arith)
 reads_ending (suc n) bits ls v w h q =
-    let e : next_of (Ending (suc n)) bits end_line ≡ Start (suc n) = rw (same_refl end_line) in
-    let f : next_of (Start (suc n)) bits (time_line 0) ≡ Values (suc n) 0 = rw (same_refl (time_line 0)) in
-    reads_on (Ending (suc n)) (Start (suc n)) bits end_line (items_of (time_line 0 ∷ first_of 0 (suc n) ls)) v w e (λ k. refl)
-    (reads_on (Start (suc n)) (Values (suc n) 0) bits (time_line 0) (items_of (first_of 0 (suc n) ls)) v w f (λ k. refl)
+    let e : next_of (Ending (suc n)) bits end_line ≡ Some (Start (suc n)) = rw (same_refl end_line) in
+    let f : next_of (Start (suc n)) bits (time_line 0) ≡ Some (Values (suc n) 0) = rw (same_refl (time_line 0)) in
+    reads_on (Ending (suc n)) (Start (suc n)) bits end_line (items_of (time_line 0 ∷ first_of 0 (suc n) ls)) v w e
+    (reads_on (Start (suc n)) (Values (suc n) 0) bits (time_line 0) (items_of (first_of 0 (suc n) ls)) v w f
     (reads_values n (suc n) 0 bits ls v w (omega arith) q))
 
 pub reads_head : (n : ℕ) (bits : List ℕ) (ls : List (List ℕ)) (v : Verdict) (w : List ℕ) → 1 ≤ n → n ≤ 94
@@ -161,16 +158,16 @@ pub reads_head : (n : ℕ) (bits : List ℕ) (ls : List (List ℕ)) (v : Verdict
     → Reads Opening bits (items_of (timescale ∷ scope_line ∷ vars_of 0 n (middle_of n ls))) v w
 unfolding items_of middle_of
 reads_head n bits ls v w a b q =
-    let e : next_of Opening bits timescale ≡ Scope = rw (same_refl timescale) in
-    let f : next_of Scope bits scope_line ≡ Variables 0 = rw (same_refl scope_line) in
-    reads_on Opening Scope bits timescale (items_of (scope_line ∷ vars_of 0 n (middle_of n ls))) v w e (λ k. refl)
-    (reads_on Scope (Variables 0) bits scope_line (items_of (vars_of 0 n (middle_of n ls))) v w f (λ k. refl)
+    let e : next_of Opening bits timescale ≡ Some Scope = rw (same_refl timescale) in
+    let f : next_of Scope bits scope_line ≡ Some (Variables 0) = rw (same_refl scope_line) in
+    reads_on Opening Scope bits timescale (items_of (scope_line ∷ vars_of 0 n (middle_of n ls))) v w e
+    (reads_on Scope (Variables 0) bits scope_line (items_of (vars_of 0 n (middle_of n ls))) v w f
     (reads_vars n n 0 bits (end_line ∷ time_line 0 ∷ first_of 0 n ls) v w (omega arith) a b (reads_ending n bits ls v w a q)))
 
 pub reads_dump : (n : ℕ) (script : List ℕ) → Dumpable n script
-    → Reads Opening no_bits (items_of (lines_of n script)) (Fine n (last_of n 1 0 no_bits script)) (trim_of n 0 no_bits script)
+    → Reads Opening no_bits (items_of (lines_of n script)) (Ok (n, last_of n 1 0 no_bits script)) (trim_of n 0 no_bits script)
 unfolding lines_of
-reads_dump n script d = reads_head n no_bits (body_of n 1 no_bits script) (Fine n (last_of n 1 0 no_bits script)) (trim_of n 0 no_bits script) d.some d.few (reads_body n 1 0 no_bits script (omega arith) (omega (arith, d.short)))
+reads_dump n script d = reads_head n no_bits (body_of n 1 no_bits script) (Ok (n, last_of n 1 0 no_bits script)) (trim_of n 0 no_bits script) d.some d.few (reads_body n 1 0 no_bits script (omega arith) (omega (arith, d.short)))
 
 -- ---- no line has a line feed in it
 

@@ -1,16 +1,17 @@
 -- Laws of lines put into a run, and of their lengths.
-use Rattle.std.specs.Prelude.{ℕ, zero, suc, ◌+◌, ◌*◌, ◌-◌, ◌/◌, ◌%◌, ◌≤◌, ◌<◌, ◌≡◌, refl, List, [], ◌∷◌, ◌++◌, Bool, true, false, eqb, length, get_or, drop, if◌then◌else◌}
-use Rattle.std.proofs.Common.{sym, ap, ◌∙◌, append_assoc, arith, length-append, length-drop, eqb-true, lt-ltb}
+use Rattle.std.specs.Prelude.{ℕ, zero, suc, ◌+◌, ◌*◌, ◌-◌, ◌≤◌, ◌<◌, ◌≡◌, refl, List, [], ◌∷◌, ◌++◌, Bool, true, false, eqb, length, get_or, drop, if◌then◌else◌, set, replicate, Result, Ok, ltb}
+use Rattle.io.specs.Digits.{last_digits}
+use Rattle.std.proofs.lemmas.List.{length-replicate, drop-set}
+use Rattle.std.proofs.Common.{drop_of_length-le, sym, ap, ◌∙◌, append_assoc, arith, length-append, length-drop, eqb-true}
 use Rattle.std.proofs.lemmas.List.Edits.{sets}
 use Rattle.choice.specs.Lists.{drop_three}
 use Rattle.choice.specs.Pick.{if_both}
 use Rattle.print.specs.Print.{put_of}
 use Rattle.print.specs.Laws.{put_none, put_join, put_place}
-use Rattle.text.specs.Decimal.{digit_count_in, digit_count, decimal_of, length_decimal, digit_count_most, digit_count_few, digit_count_is}
+use Rattle.text.specs.Decimal.{digit_count_in, digit_count, decimal_of, length_decimal, digit_count_most, digit_count_few}
 use Rattle.wave_rules.specs.Lines.{joined}
 use Rattle.wave_rules.specs.Dump.{no_bits, turns, turned, changes_of, flip_of, timescale, scope_line, upscope, end_line, time_line, bit_line, var_line, each_of, vars_of, first_of, body_of, middle_of, lines_of, dump_of}
-use Rattle.wave_rules.specs.declared.Dumped.{Dumped}
-use Rattle.wave_rules.specs.declared.Dumped.TheVariants.{Written}
+use Rattle.wave_rules.specs.declared.WriteRefusal.{WriteRefusal}
 use Rattle.wave_write.specs.Writer.{wanted_of, flipped_of, step_of, weigh_of, head_of}
 
 -- ---- lines
@@ -123,35 +124,37 @@ put_two l m i j x y ls e =
 pub five_digits : (t : ℕ) → t < 100000 → digit_count t ≤ 5
 five_digits t h = digit_count_few t 5 (omega arith) (omega arith) (omega arith)
 
--- the digits of a time that has five
-five_are : (t : ℕ) → 10000 ≤ t → t < 100000
-    → decimal_of t ≡ (48 + t / 10 / 10 / 10 / 10) ∷ (48 + t / 10 / 10 / 10 % 10) ∷ (48 + t / 10 / 10 % 10) ∷ (48 + t / 10 % 10) ∷ (48 + t % 10) ∷ []
+pub some_digits : (t : ℕ) → 1 ≤ digit_count t
+unfolding digit_count digit_count_in
+some_digits t = if_both (λ (n : ℕ). 1 ≤ n) (ltb t 10) (omega arith) (omega arith)
+
+-- a time line of n bytes before its digits are put, from the last on
+abbrev pub marks : ℕ → List ℕ
+marks n = replicate n 35
+
+pub digits_first : (n : ℕ) → 2 ≤ n → get_or (set (marks n) (n - 1) 10) 0 0 ≡ 35
+digits_first zero h = absurd (omega arith)
+digits_first (suc zero) h = absurd (omega arith)
+digits_first (suc (suc m)) h = let e : suc (suc m) - 1 ≡ suc m = omega arith in rw e
+
+pub digits_start : (n t : ℕ) → n ≡ digit_count t + 2
+    → last_digits 10 (n - 1 - 1) t ++ drop (n - 1) (set (marks n) (n - 1) 10) ≡ decimal_of t ++ 10 ∷ []
 unfolding decimal_of
-five_are t low high =
-    let e : 5 ≡ digit_count t = digit_count_is t 5 (omega arith) (omega arith, omega arith, λ e. omega arith) in
-    let f : t / 10 / 10 / 10 / 10 % 10 ≡ t / 10 / 10 / 10 / 10 = omega arith in
-    let g : t / 10 / 10 / 10 / 10 < 10 = omega arith in
-    rw (← e, f, lt-ltb _ 10 g, lt-ltb (t / 10 / 10 / 10 % 10) 10 (omega arith), lt-ltb (t / 10 / 10 % 10) 10 (omega arith), lt-ltb (t / 10 % 10) 10 (omega arith), lt-ltb (t % 10) 10 (omega arith))
+digits_start n t e =
+    let r = length-replicate {A = ℕ} n 35 in
+    let k : n - 1 - 1 ≡ digit_count t = omega arith in
+    let d = drop-set (marks n) (n - 1) 10 (omega (arith, r)) in
+    let z : drop (n - 1 + 1) (marks n) ≡ [] = drop_of_length-le (marks n) (omega (arith, r)) in
+    rw (k, d, z)
 
-pub five_line : (t : ℕ) → 10000 ≤ t → t < 100000
-    → joined (time_line t ∷ []) ≡ 35 ∷ (48 + t / 10 / 10 / 10 / 10) ∷ (48 + t / 10 / 10 / 10 % 10) ∷ (48 + t / 10 / 10 % 10) ∷ (48 + t / 10 % 10) ∷ (48 + t % 10) ∷ 10 ∷ []
+-- and with the first one
+pub digits_done : (t i rest : ℕ) (text : List ℕ) → 0 < length text → get_or text 0 0 ≡ 35 → i ≡ 1
+    → last_digits 10 (i - 1) rest ++ drop i text ≡ decimal_of t ++ 10 ∷ [] → text ≡ joined (time_line t ∷ [])
 unfolding joined time_line
-five_line t low high = rw (five_are t low high)
-
--- and of one that has four
-four_are : (t : ℕ) → 1000 ≤ t → t < 10000
-    → decimal_of t ≡ (48 + t / 10 / 10 / 10) ∷ (48 + t / 10 / 10 % 10) ∷ (48 + t / 10 % 10) ∷ (48 + t % 10) ∷ []
-unfolding decimal_of
-four_are t low high =
-    let e : 4 ≡ digit_count t = digit_count_is t 4 (omega arith) (omega arith, omega arith, λ e. omega arith) in
-    let f : t / 10 / 10 / 10 % 10 ≡ t / 10 / 10 / 10 = omega arith in
-    let g : t / 10 / 10 / 10 < 10 = omega arith in
-    rw (← e, f, lt-ltb _ 10 g, lt-ltb (t / 10 / 10 % 10) 10 (omega arith), lt-ltb (t / 10 % 10) 10 (omega arith), lt-ltb (t % 10) 10 (omega arith))
-
-pub four_line : (t : ℕ) → 1000 ≤ t → t < 10000
-    → joined (time_line t ∷ []) ≡ 35 ∷ (48 + t / 10 / 10 / 10) ∷ (48 + t / 10 / 10 % 10) ∷ (48 + t / 10 % 10) ∷ (48 + t % 10) ∷ 10 ∷ []
-unfolding joined time_line
-four_line t low high = rw (four_are t low high)
+digits_done t i rest [] h f e d = absurd (omega arith)
+digits_done t i rest (b ∷ text) h f e d =
+    let z : i - 1 ≡ 0 = omega arith in
+    cc (rw (z, e) at d, f)
 
 -- ---- a loop over steps: one turn, and the end
 
@@ -304,7 +307,7 @@ dump_size n script = rw (dump_parts n script) (length-append (head_of n) (joined
 -- the head and the changes are put: the dump is
 pub dump_put : (n : ℕ) (script out m o : List ℕ) (at r : ℕ) → (at, m) ≡ put_of out 0 (head_of n)
     → (r, o) ≡ put_of m at (joined (body_of n 1 no_bits script))
-    → ◌≡◌ {A = Dumped × List ℕ} (Written r, o) (Written (length (dump_of n script)), sets out 0 (dump_of n script))
+    → ◌≡◌ {A = Result ℕ WriteRefusal × List ℕ} (Ok r, o) (Ok (length (dump_of n script)), sets out 0 (dump_of n script))
 unfolding put_of
 dump_put n script out m o at r e f =
     let p : (r, o) ≡ put_of out 0 (dump_of n script) = rw (dump_parts n script) (put_join out m o 0 at r (head_of n) (joined (body_of n 1 no_bits script)) e f) in

@@ -12,79 +12,45 @@ ghost use Rattle.wave_rules.specs.Calls.{bad_history, too_wide, fitted_of, write
 ghost use Rattle.wave_write.specs.Writer.{wanted_of, flipped_of, step_of, weigh_of, head_of};
 
 use print::{put, put_number};
-use wave_rules::Dumped;
+use wave_rules::WriteRefusal;
 
 // ---- lines
 
+// A time line of N bytes, so of N - 2 digits.
+// (d) Beside `put_number` of `print`, which is for any number: here the number of digits is known, and no loop is left.
+fn put_digits<const N: usize>(out: &mut [u8], at: usize, t: usize) -> usize
+    requires { (t < 100000) × (N ≡ digit_count t + 2) × (at + N ≤ length out.old) }
+    ensures { (result, out.new) ≡ put_of out.old at (joined (time_line t ∷ [])) }
+{
+    let mut text = [b'#'; N];
+    text[N - 1] = b'\n';
+    let mut rest = t as u32;
+    for i in (1..N - 1).rev() {
+        text[i] = b'0' + (rest % 10) as u8;
+        rest /= 10;
+    }
+    put(out, at, &text)
+}
+
 // The line of a time.
 fn put_time(out: &mut [u8], at: usize, t: usize) -> usize
-    requires { at + digit_count t + 2 ≤ length out.old }
-    ensures { (result, out.new) ≡ put_of out.old at (joined (time_line t ∷ [])) }
-{
-    let a = put(out, at, b"#");
-    let b = put_number(out, a, t);
-    put(out, b, b"\n")
-}
-
-// A time of five digits, which most steps of a long history have: no loop, and no test of how many there are.
-fn put_five(out: &mut [u8], at: usize, t: usize) -> usize
-    requires { (10000 ≤ t) × (t < 100000) × (at + 7 ≤ length out.old) }
-    ensures { (result, out.new) ≡ put_of out.old at (joined (time_line t ∷ [])) }
-{
-    let a = t / 10;
-    let b = a / 10;
-    let c = b / 10;
-    let d = c / 10;
-    let text = [
-        35,
-        48 + d as u8,
-        48 + (c % 10) as u8,
-        48 + (b % 10) as u8,
-        48 + (a % 10) as u8,
-        48 + (t % 10) as u8,
-        10,
-    ];
-    put(out, at, &text)
-}
-
-// As `put_five`, a time of four digits.
-fn put_four(out: &mut [u8], at: usize, t: usize) -> usize
-    requires { (1000 ≤ t) × (t < 10000) × (at + 6 ≤ length out.old) }
-    ensures { (result, out.new) ≡ put_of out.old at (joined (time_line t ∷ [])) }
-{
-    let a = t / 10;
-    let b = a / 10;
-    let c = b / 10;
-    let text = [
-        35,
-        48 + c as u8,
-        48 + (b % 10) as u8,
-        48 + (a % 10) as u8,
-        48 + (t % 10) as u8,
-        10,
-    ];
-    put(out, at, &text)
-}
-
-// As `put_time`, of a step's number.
-fn put_step_time(out: &mut [u8], at: usize, t: usize) -> usize
     requires { (t < 100000) × (at + digit_count t + 2 ≤ length out.old) }
     ensures { (result, out.new) ≡ put_of out.old at (joined (time_line t ∷ [])) }
 {
-    if t < 1000 {
-        return put_time(out, at, t);
+    match digit_count(t) {
+        1 => put_digits::<3>(out, at, t),
+        2 => put_digits::<4>(out, at, t),
+        3 => put_digits::<5>(out, at, t),
+        4 => put_digits::<6>(out, at, t),
+        _ => put_digits::<7>(out, at, t),
     }
-    if t < 10000 {
-        return put_four(out, at, t);
-    }
-    put_five(out, at, t)
 }
 
 fn put_bit(out: &mut [u8], at: usize, bit: u8, cell: u8) -> usize
     requires { (bit ≤ 1) × (cell < 94) × (at + 3 ≤ length out.old) }
     ensures { (result, out.new) ≡ put_of out.old at (joined (bit_line bit cell ∷ [])) }
 {
-    let text = [48 + bit, 33 + cell, 10];
+    let text = [b'0' + bit, b'!' + cell, b'\n'];
     put(out, at, &text)
 }
 
@@ -93,23 +59,8 @@ pub fn put_var(out: &mut [u8], at: usize, cell: u8) -> usize
     requires { (cell < 94) × (at + digit_count cell + 21 ≤ length out.old) }
     ensures { (result, out.new) ≡ put_of out.old at (joined (var_line cell ∷ [])) }
 {
-    let front = [
-        36,
-        118,
-        97,
-        114,
-        32,
-        119,
-        105,
-        114,
-        101,
-        32,
-        49,
-        32,
-        33 + cell,
-        32,
-        99,
-    ];
+    let mut front = *b"$var wire 1 ! c";
+    front[12] = b'!' + cell;
     let a = put(out, at, &front);
     let b = put_number(out, a, cell as usize);
     put(out, b, b" $end\n")
@@ -122,46 +73,43 @@ fn put_vars(out: &mut [u8], at: usize, n: u8) -> usize
     ensures { (result, out.new) ≡ put_of out.old at (joined (vars_of 0 n [])) }
 {
     let mut used = at;
-    let mut cell: u8 = 0;
-    while cell < n {
+    for cell in 0..n {
         used = put_var(out, used, cell);
-        cell += 1;
     }
     used
 }
 
+// Kept beside `put_vars`: a closure for the line would bring the room that it asks for into every contract here.
+// (d) Beside `put_vars`: a closure for the line would bring the room that it asks for into every contract here.
 fn put_first(out: &mut [u8], at: usize, n: u8) -> usize
     requires { (n ≤ 94) × (at + length (joined (first_of 0 n [])) ≤ length out.old) }
     ensures { (result, out.new) ≡ put_of out.old at (joined (first_of 0 n [])) }
 {
     let mut used = at;
-    let mut cell: u8 = 0;
-    while cell < n {
+    for cell in 0..n {
         used = put_bit(out, used, 0, cell);
-        cell += 1;
     }
     used
 }
 
 // ---- a step
 
+// (a) Kinds and bits stay numbers: L11's definitions and the dump's digits have them so, and an enum is turned back.
+// (d) `weigh` and `body_size` stay beside `step` and `put_body`: one walk would ask for the room of any closure.
+// (d) The number of cells and their bits stay two parameters: every definition of `specs/` takes them apart.
+
+#[tactic(auto, unfolding(wave_rules::specs::Dump::turns))]
 fn turns(kind: u32, bit: u8) -> bool
     ensures { result ≡ Dump·turns kind bit }
 {
-    if bit == 0 {
-        return kind == 1;
-    }
-    kind == 2
+    if bit == 0 { kind == 1 } else { kind == 2 }
 }
 
 // A part: the reader calls it too.
 pub fn turned(bit: u8) -> u8
     ensures { result ≡ Dump·turned bit }
 {
-    if bit == 0 {
-        return 1;
-    }
-    0
+    if bit == 0 { 1 } else { 0 }
 }
 
 // Whether a step changes a bit; the bits after it.
@@ -169,13 +117,9 @@ fn flip(n: usize, bits: &mut [u8; 94], kind: u32, cell: usize) -> bool
     requires { n ≤ 94 }
     ensures { (result, bits.new) ≡ flipped_of n bits.old kind cell }
 {
-    if cell < n {
-        let bit = bits[cell];
-        if turns(kind, bit) {
-            bits[cell] = turned(bit);
-            return true;
-        }
-        return false;
+    if cell < n && turns(kind, bits[cell]) {
+        bits[cell] = turned(bits[cell]);
+        return true;
     }
     false
 }
@@ -185,21 +129,20 @@ fn put_change(out: &mut [u8], at: usize, t: usize, bit: u8, cell: u8) -> usize
     ensures { (result, out.new)
         ≡ put_of out.old at (joined (time_line t ∷ bit_line bit cell ∷ [])) }
 {
-    let a = put_step_time(out, at, t);
+    let a = put_time(out, at, t);
     put_bit(out, a, bit, cell)
 }
 
 // The bit that a take or a release leaves.
+#[tactic(auto, unfolding(crate::specs::Writer::wanted_of))]
 fn wanted(kind: u32) -> u8
     ensures { result ≡ wanted_of kind }
 {
-    if kind == 1 {
-        return 1;
-    }
-    0
+    if kind == 1 { 1 } else { 0 }
 }
 
 // One step: the bits after it, and its lines.
+// Kept beside `weigh`, as `put_body` beside `body_size`: one walk for both would ask for room of any closure it calls.
 fn step(
     n: usize,
     t: usize,
@@ -215,8 +158,7 @@ fn step(
         ≡ step_of n t bits.old kind cell out.old at }
 {
     if flip(n, bits, kind, cell) {
-        let bit = wanted(kind);
-        return put_change(out, at, t, bit, cell as u8);
+        return put_change(out, at, t, wanted(kind), cell as u8);
     }
     at
 }
@@ -229,14 +171,10 @@ fn put_body(n: usize, script: &[u32], out: &mut [u8], at: usize) -> usize
 {
     let mut bits = [0u8; 94];
     let mut used = at;
-    let mut t = 1;
-    let mut i = 0;
-    while i + 2 < script.len() {
-        let kind = script[i];
-        let cell = script[i + 1];
-        used = step(n, t, &mut bits, kind, cell as usize, out, used);
-        t += 1;
-        i += 3;
+    for s in 0..script.len() / 3 {
+        let kind = script[3 * s];
+        let cell = script[3 * s + 1] as usize;
+        used = step(n, s + 1, &mut bits, kind, cell, out, used);
     }
     used
 }
@@ -254,10 +192,12 @@ fn put_head(out: &mut [u8], n: u8) -> usize
 // ---- how long
 
 // The most digits first: most steps of a long history have them.
+// (b) A match over ranges is compiled to try the fewest digits first, 5 % of the instructions of a long dump.
 fn digit_count(t: usize) -> usize
     requires { t < 100000 }
     ensures { result ≡ digit_count t }
 {
+    // Kept: a match over ranges is compiled to try the fewest digits first, 5 % of the instructions of a long dump.
     if 10000 <= t {
         return 5;
     }
@@ -267,10 +207,7 @@ fn digit_count(t: usize) -> usize
     if 100 <= t {
         return 3;
     }
-    if 10 <= t {
-        return 2;
-    }
-    1
+    if 10 <= t { 2 } else { 1 }
 }
 
 fn head_size(n: usize) -> usize
@@ -278,10 +215,8 @@ fn head_size(n: usize) -> usize
     ensures { result ≡ length (head_of n) }
 {
     let mut size = 80;
-    let mut cell = 0;
-    while cell < n {
+    for cell in 0..n {
         size += 24 + digit_count(cell);
-        cell += 1;
     }
     size
 }
@@ -304,14 +239,10 @@ fn body_size(n: usize, script: &[u32]) -> usize
 {
     let mut bits = [0u8; 94];
     let mut size = 0;
-    let mut t = 1;
-    let mut i = 0;
-    while i + 2 < script.len() {
-        let kind = script[i];
-        let cell = script[i + 1];
-        size += weigh(n, t, &mut bits, kind, cell as usize);
-        t += 1;
-        i += 3;
+    for s in 0..script.len() / 3 {
+        let kind = script[3 * s];
+        let cell = script[3 * s + 1] as usize;
+        size += weigh(n, s + 1, &mut bits, kind, cell);
     }
     size
 }
@@ -319,48 +250,44 @@ fn body_size(n: usize, script: &[u32]) -> usize
 // ---- the whole
 
 // Whether a script is no history: "at most 32,768 steps (else 2, first)".
+#[tactic(auto, unfolding(wave_rules::specs::Calls::bad_history))]
 fn bad_history(script: &[u32]) -> bool
     ensures { result ≡ bad_history script.now }
 {
-    if script.len() % 3 != 0 {
-        return true;
-    }
-    32768 < script.len() / 3
+    script.len() % 3 != 0 || 32768 < script.len() / 3
 }
 
 // "No cells or more than 94".
+#[tactic(auto, unfolding(wave_rules::specs::Calls::too_wide))]
 fn too_wide(n: u32) -> bool
     ensures { result ≡ too_wide n }
 {
-    if n == 0 {
-        return true;
-    }
-    94 < n
+    n == 0 || 94 < n
 }
 
 // The dump, if there is room for all of it.
-fn fitted(n: u32, script: &[u32], out: &mut [u8]) -> Dumped
+fn fitted(n: u32, script: &[u32], out: &mut [u8]) -> Result<usize, WriteRefusal>
     requires { (n ≤ 94) × (length script.now ≤ 98304) }
     ensures { (result, out.new) ≡ fitted_of n script.now out.old }
 {
     let cells = n as usize;
     let size = head_size(cells) + body_size(cells, script);
     if out.len() < size {
-        return Dumped::NoRoom;
+        return Err(WriteRefusal::NoRoom);
     }
     let at = put_head(out, n as u8);
-    Dumped::Written(put_body(cells, script, out, at))
+    Ok(put_body(cells, script, out, at))
 }
 
 // The call: the dump of the first n cells over a history, into a lent buffer.
-pub fn write(n: u32, script: &[u32], out: &mut [u8]) -> Dumped
+pub fn write(n: u32, script: &[u32], out: &mut [u8]) -> Result<usize, WriteRefusal>
     ensures { (result, out.new) ≡ write_of n script.now out.old }
 {
     if bad_history(script) {
-        return Dumped::BadScript;
+        return Err(WriteRefusal::BadScript);
     }
     if too_wide(n) {
-        return Dumped::TooWide;
+        return Err(WriteRefusal::TooWide);
     }
     fitted(n, script, out)
 }

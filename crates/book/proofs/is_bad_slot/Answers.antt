@@ -6,6 +6,6 @@ pub returns-then-is_bad_book : goal.returns-then-is_bad_book
 unfolding is_bad_slot
 returns-then-is_bad_book c = rw (← c.is_bad_book.ensures, c.if-is_bad_book.true)
 
-pub returns : goal.returns
+pub returns-else-is_bad_book : goal.returns-else-is_bad_book
 unfolding is_bad_slot
-returns c = rw (← c.is_bad_book.ensures, c.if-is_bad_book.false)
+returns-else-is_bad_book c = rw (← c.is_bad_book.ensures, c.if-is_bad_book.false)

@@ -6,6 +6,6 @@ pub returns-then-is_live : goal.returns-then-is_live
 unfolding is_holder
 returns-then-is_live c = rw (← c.is_live.ensures, c.if-is_live.true)
 
-pub returns : goal.returns
+pub returns-else-is_live : goal.returns-else-is_live
 unfolding is_holder
-returns c = rw (← c.is_live.ensures, c.if-is_live.false)
+returns-else-is_live c = rw (← c.is_live.ensures, c.if-is_live.false)

@@ -2,10 +2,10 @@
 use Rattle.book_rules.specs.Calls.{line_read}
 use Rattle.book.proofs.line_read.Goals as goal
 
-pub returns-in-Setting : goal.returns-in-Setting
+pub returns-in_default : goal.returns-in_default
 unfolding line_read
-returns-in-Setting c = rw (← c.place_at.ensures, ← c.setting_at-found.ensures, c.in-Setting.is)
+returns-in_default c = rw (← c.place_at-place.ensures, ← c.setting_at.ensures, c.in_default.is)
 
-pub returns-in-Damaged : goal.returns-in-Damaged
+pub returns : goal.returns
 unfolding line_read
-returns-in-Damaged c = rw (← c.place_at.ensures, ← c.setting_at-found.ensures, c.in-Damaged.is)
+returns c = rw (← c.place_at-place.ensures, ← c.setting_at.ensures, c.in-Some.is)

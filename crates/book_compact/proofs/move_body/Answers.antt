@@ -1,38 +1,17 @@
 -- `book_compact::move_body` meets its contract.
-use native.Mathlib.Omega.{arith}
-use lib.ListN.{length-set}
-use Rattle.book_compact.specs.Slide.{moved_stores}
+use Rattle.std.proofs.Common.{◌+◌, ◌-◌, ◌≤◌, length, replicate, refl, arith}
+use Rattle.std.proofs.lemmas.List.Edits.{sets}
+use Rattle.std.proofs.Math.Seq.{length-sets}
+use Rattle.book_rules.specs.Layout.{five_at}
+use Rattle.book_compact.specs.Slide.{moved_to, part_filled, part_copied}
 use Rattle.book_compact.proofs.move_body.Goals as goal
 
-pub bounds-book-p-7 : goal.bounds-book-p-7
-bounds-book-p-7 c = simp length-set (omega (arith, c.requires))
-
-pub bounds-book-p-8 : goal.bounds-book-p-8
-bounds-book-p-8 c = simp length-set (omega (arith, c.requires))
-
-pub bounds-book-p-9 : goal.bounds-book-p-9
-bounds-book-p-9 c = simp length-set (omega (arith, c.requires))
-
-pub bounds-book-p-10 : goal.bounds-book-p-10
-bounds-book-p-10 c = simp length-set (omega (arith, c.requires))
-
-pub bounds-book-q : goal.bounds-book-q
-bounds-book-q c = simp length-set (omega (arith, c.requires))
-
-pub bounds-book-q-2 : goal.bounds-book-q-2
-bounds-book-q-2 c = simp length-set (omega (arith, c.requires))
-
-pub bounds-book-q-3 : goal.bounds-book-q-3
-bounds-book-q-3 c = simp length-set (omega (arith, c.requires))
-
-pub bounds-book-q-4 : goal.bounds-book-q-4
-bounds-book-q-4 c = simp length-set (omega (arith, c.requires))
-
-pub bounds-book-q-5 : goal.bounds-book-q-5
-bounds-book-q-5 c = simp length-set (omega (arith, c.requires))
-
-pub shape_of-book : goal.shape_of-book
-shape_of-book c = simp length-set
-
 pub returns : goal.returns
-returns c = moved_stores _ _ _
+unfolding moved_to five_at
+returns c =
+    let b = c.args.book.now in
+    let p = c.args.p in
+    let q = c.args.q in
+    let zeros = part_filled b _ p 5 (p + 5 - p) (c.fill.ensures.after (λ y e. e)) (omega arith) c.requires.p_in_bounds in
+    let room : q + 5 ≤ length (sets b p (replicate 5 0)) = omega (arith, length-sets b p (replicate 5 0), c.requires.p_in_bounds, c.requires.q_le_p) in
+    rw zeros (part_copied (sets b p (replicate 5 0)) _ _ q 5 (q + 5 - q) c.copy_from_slice.ensures.after refl (omega arith) room)

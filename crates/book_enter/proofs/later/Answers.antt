@@ -1,16 +1,12 @@
 -- `book_enter::later` meets its contract.
-use native.Mathlib.Omega.{arith}
+use Rattle.std.proofs.Common.{arith}
 use Rattle.book_enter.specs.Steps.{later_of}
 use Rattle.book_enter.proofs.later.Goals as goal
 
-pub returns-then-end-till : goal.returns-then-end-till
+pub returns-then-not-is_kept : goal.returns-then-not-is_kept
 unfolding later_of
-returns-then-end-till c = rw (← c.is_kept.ensures, c.if-is_kept.true, ← c.place_at.ensures) (omega (arith, c.if-end-till.true))
-
-pub returns-then-is_kept : goal.returns-then-is_kept
-unfolding later_of
-returns-then-is_kept c = rw (← c.is_kept.ensures, c.if-is_kept.true, ← c.place_at.ensures) (omega (arith, c.if-end-till.false))
+returns-then-not-is_kept c = rw (← c.is_kept.ensures, c.if-not-is_kept.true) (omega arith)
 
 pub returns : goal.returns
 unfolding later_of
-returns c = rw (← c.is_kept.ensures, c.if-is_kept.false) (omega arith)
+returns c = rw (← c.is_kept.ensures, c.if-not-is_kept.false, ← c.place_at.ensures) c.max.ensures

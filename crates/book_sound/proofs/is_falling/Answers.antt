@@ -1,12 +1,12 @@
 -- `book_sound::is_falling` meets its contract.
-use Rattle.std.proofs.Common.{sym, rules}
+use Rattle.std.proofs.Common.{sym, ◌∙◌, eq-eqb}
 use Rattle.book_rules.specs.Layout.{is_falling}
 use Rattle.book_sound.specs.Scan.{falling_first}
 use Rattle.book_sound.proofs.is_falling.Goals as goal
 
 pub returns-then-k-eq0 : goal.returns-then-k-eq0
-returns-then-k-eq0 c = let a = c.args in sym (falling_first a.book.now a.k c.if-k-eq0.true)
+returns-then-k-eq0 c = eq-eqb _ _ c.if-k-eq0.true ∙ sym (falling_first c.args.book.now c.args.k c.if-k-eq0.true)
 
-pub returns : goal.returns
+pub returns-else-k-eq0 : goal.returns-else-k-eq0
 unfolding is_falling
-returns c = rw (← c.version_at.ensures, ← c.requires.wanted c.if-k-eq0.false)
+returns-else-k-eq0 c = rw (← c.version_at.ensures, ← c.requires.wanted c.if-k-eq0.false)

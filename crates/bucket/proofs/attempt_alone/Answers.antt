@@ -11,11 +11,11 @@ use Rattle.bucket.proofs.attempt_alone.Goals as goal
 pub quiet_once_at-requires : goal.quiet_once_at-requires
 quiet_once_at-requires c = (run_few _ _ _ c.requires.1.0, lands_within c.args.scope _ _ _ _ _ _ c.requires.0 c.requires.1.1)
 
-pub returns-then-scope-flow : goal.returns-then-scope-flow
-returns-then-scope-flow c =
+pub returns-then-scope-run : goal.returns-then-scope-run
+returns-then-scope-run c =
     let a = c.args in
     let e = in_scope a.scope a.script.now (holds_of a.held.now) in
-    rw (once_quiet e a.scope.buckets a.health.now a.found a.run a.table.now (λ d q. (c.requires.1.1 d q).healthy) (omega (arith, c.if-scope-flow.true, c.requires.0.steps_are)), ← c.quiet_once_at.ensures)
+    rw (once_quiet e a.scope.buckets a.health.now a.found a.run a.table.now (λ d q. (c.requires.1.1 d q).healthy) (omega (arith, c.if-scope-run.true, c.requires.0.steps_are)), ← c.quiet_once_at.ensures)
 
 pub attempt_once-requires : goal.attempt_once-requires
 attempt_once-requires c = (c.requires.0, (more_run_bound _ _ _ _ (omega arith) c.requires.1.0, c.requires.1.1))

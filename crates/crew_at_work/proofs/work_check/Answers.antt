@@ -1,18 +1,21 @@
 -- `crew_at_work::work_check` meets its contract.
-use Rattle.std.proofs.Common.{sym, ◌∙◌, arith, rules}
-use Rattle.laws.specs.Checks.{arena_fine}
-use Rattle.crew_at_work.specs.Laws.{work_then}
+use Rattle.std.specs.Prelude.{[], ◌∷◌, not}
+use Rattle.std.proofs.Common.{sym, ap, ◌∙◌, rules, eq-eqb}
+use Rattle.std.proofs.lemmas.Bool.{ne_eqb}
+use Rattle.model.specs.Crew.{crew_at_work_rules}
+use Rattle.laws.specs.Checks.{stopped, went_on, first_hit, first_skip}
 use Rattle.crew_at_work.proofs.work_check.Goals as goal
 
-pub overflow_mul-head : goal.overflow_mul-head
-overflow_mul-head c = let a = c.args in
-    let s = arena_fine a.head a.table.now a.health.now (sym c.arena_fault-shape.ensures ∙ c.in-Fine.is) in
-    omega (arith, s.0.few_cells)
+pub returns-in_err-arena_fault : goal.returns-in_err-arena_fault
+unfolding crew_at_work_rules
+returns-in_err-arena_fault c = stopped (_ ∷ _ ∷ []) _ _ (search rules) (sym c.arena_fault.ensures ∙ c.in_err-arena_fault.was)
 
-pub returns-in-Fault : goal.returns-in-Fault
-returns-in-Fault c = let a = c.args in
-    rw (work_then a.head a.table.now a.health.now a.counts.now a.cells.now a.turns.now a.counters.now, ← c.arena_fault-shape.ensures, c.in-Fault.is)
+pub returns-then-counters-inside : goal.returns-then-counters-inside
+unfolding crew_at_work_rules
+returns-then-counters-inside c =
+    went_on (_ ∷ _ ∷ []) _ (sym (first_hit _ _ (ap not (ne_eqb _ _ c.if-counters-inside.true)))) (sym c.arena_fault.ensures ∙ c.in_ok-arena_fault.was)
 
-pub returns-in-Fine : goal.returns-in-Fine
-returns-in-Fine c = let a = c.args in
-    rw (work_then a.head a.table.now a.health.now a.counts.now a.cells.now a.turns.now a.counters.now, ← c.arena_fault-shape.ensures, c.in-Fine.is, ← c.work_fault.ensures)
+pub returns : goal.returns
+unfolding crew_at_work_rules
+returns c =
+    went_on (_ ∷ _ ∷ []) _ (c.plan_fault.ensures ∙ sym (first_skip _ _ (ap not (eq-eqb _ _ c.if-counters-inside.false)))) (sym c.arena_fault.ensures ∙ c.in_ok-arena_fault.was)

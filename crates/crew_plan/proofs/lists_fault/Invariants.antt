@@ -1,18 +1,11 @@
 -- `crew_plan::lists_fault` meets its contract.
-use Prim.Native.Nat.{◌≤◌, ◌-◌, ◌+◌}
-use mathlib.Core.Path.{◌≡◌, sym, ap}
-use native.Mathlib.Omega.{arith}
-use lib.ListN.{length, get_or}
+use Prim.Native.Nat.{◌≤◌, ◌-◌}
+use mathlib.Core.Path.{◌≡◌}
+use lib.ListN.{length}
 use Rattle.model.specs.Crew.{start_of, bad_lists}
 use Rattle.model.specs.Refusals.{first}
-use Rattle.crew_plan.specs.Lists.{lists_at, lists_end}
-use Rattle.crew_plan.specs.Starts.{start_first, start_next}
-use Rattle.laws.specs.Crew.{start_fits}
 use Rattle.crew_plan.proofs.lists_fault.Given as goal
 
 abbrev pub invariant-loop-m : goal.invariant-loop-m
 invariant-loop-m l =
     (l.m ≤ length l.counts) × ((l.start ≡ start_of l.counts l.m) × (first (bad_lists (length l.counts - l.m) l.m l.inside l.counts l.cells) ≡ first (bad_lists (length l.counts) 0 l.inside l.counts l.cells)))
-
-abbrev pub decreases-loop-m : goal.decreases-loop-m
-decreases-loop-m l = length l.counts - l.m

@@ -1,9 +1,9 @@
 -- `foreign::lists_fault` meets its contract.
-use Rattle.laws.specs.Checks.{first_two}
+use mathlib.Core.Path.{sym, ◌∙◌}
+use Rattle.std.specs.Prelude.{[], ◌∷◌}
+use Rattle.std.proofs.Common.{rules}
+use Rattle.laws.specs.Checks.{stopped}
 use Rattle.foreign.proofs.lists_fault.Goals as goal
 
-pub returns-in-Fault : goal.returns-in-Fault
-returns-in-Fault c = rw (first_two _ _, ← c.script_fault-fault.ensures, c.in-Fault.is)
-
-pub returns-in-Fine : goal.returns-in-Fine
-returns-in-Fine c = rw (first_two _ _, ← c.script_fault-fault.ensures, c.in-Fine.is, ← c.held_fault.ensures)
+pub returns-in_err-script_fault : goal.returns-in_err-script_fault
+returns-in_err-script_fault c = stopped (_ ∷ []) _ _ (search rules) (sym c.script_fault.ensures ∙ c.in_err-script_fault.was)

@@ -5,10 +5,10 @@ use Rattle.lease.specs.Drop.{behind_fine, behind_ends, behind_goes}
 use Rattle.lease.proofs.drop_behind.Goals as goal
 
 pub drop_unprotected-requires : goal.drop_unprotected-requires
-drop_unprotected-requires c = let f = behind_fine _ _ _ c.requires (sym c.lease_fault-one.ensures ∙ c.in-Fine.is) in omega (arith, f.shape.words_are, f.inside)
+drop_unprotected-requires c = let f = behind_fine _ _ _ c.requires (sym c.lease_fault.ensures ∙ c.in-Ok.is) in omega (arith, f.shape.words_are, f.inside)
 
-pub returns-in-Fault : goal.returns-in-Fault
-returns-in-Fault c = rw (behind_ends _ _ _ _ _ (sym c.lease_fault-one.ensures ∙ c.in-Fault.is), ← c.refuse.ensures)
+pub returns-in-Err : goal.returns-in-Err
+returns-in-Err c = rw (behind_ends _ _ _ _ _ (sym c.lease_fault.ensures ∙ c.in-Err.is), ← c.refuse.ensures)
 
-pub returns-in-Fine : goal.returns-in-Fine
-returns-in-Fine c = rw (behind_goes _ _ _ _ (sym c.lease_fault-one.ensures ∙ c.in-Fine.is)) c.drop_unprotected.ensures
+pub returns-in-Ok : goal.returns-in-Ok
+returns-in-Ok c = rw (behind_goes _ _ _ _ (sym c.lease_fault.ensures ∙ c.in-Ok.is)) c.drop_unprotected.ensures

@@ -10,19 +10,19 @@ use Rattle.lease.proofs.drop_preserving_borrows.Goals as goal
 pub returns-then-held-eq0 : goal.returns-then-held-eq0
 returns-then-held-eq0 c = rw (drop_unheld _ _ _ _ c.if-held-eq0.true) c.drop_lease.ensures
 
-pub held_fault-list-requires : goal.held_fault-list-requires
-held_fault-list-requires c = sym c.shape_fits.ensures ∙ c.if-shape_fits.true
+pub held_fault-requires : goal.held_fault-requires
+held_fault-requires c = sym c.shape_fits.ensures ∙ c.if-shape_fits.true
 
 pub drop_behind-requires : goal.drop_behind-requires
 drop_behind-requires c = sym c.shape_fits.ensures ∙ c.if-shape_fits.true
 
-pub returns-in-Fault : goal.returns-in-Fault
+pub returns-in-Err : goal.returns-in-Err
 unfolding drop_preserving_of held_lease_rules
-returns-in-Fault c = rw (shape_ok _ _ _ (sym c.shape_fits.ensures ∙ c.if-shape_fits.true), held_then _ _ _ _, ← c.held_fault-list.ensures, c.in-Fault.is, ← c.refuse.ensures)
+returns-in-Err c = rw (shape_ok _ _ _ (sym c.shape_fits.ensures ∙ c.if-shape_fits.true), held_then _ _ _ _, ← c.held_fault.ensures, c.in-Err.is, ← c.refuse.ensures)
 
-pub returns-in-Fine : goal.returns-in-Fine
+pub returns-in-Ok : goal.returns-in-Ok
 unfolding drop_preserving_of held_lease_rules drop_behind_of
-returns-in-Fine c = rw (shape_ok _ _ _ (sym c.shape_fits.ensures ∙ c.if-shape_fits.true), held_then _ _ _ _, ← c.held_fault-list.ensures, c.in-Fine.is) c.drop_behind.ensures
+returns-in-Ok c = rw (shape_ok _ _ _ (sym c.shape_fits.ensures ∙ c.if-shape_fits.true), held_then _ _ _ _, ← c.held_fault.ensures, c.in-Ok.is) c.drop_behind.ensures
 
 pub returns : goal.returns
 unfolding drop_preserving_of held_lease_rules

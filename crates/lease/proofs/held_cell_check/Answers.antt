@@ -1,25 +1,30 @@
 -- `lease::held_cell_check` meets its contract.
 use mathlib.Core.Path.{sym, ◌∙◌}
-use Rattle.model.specs.Checks.{held_cell_rules}
-use Rattle.laws.specs.Checks.{shape_ok, shape_bad, held_then}
-use Rattle.laws.specs.Shape.{shaped}
+use Rattle.std.specs.Prelude.{[], ◌∷◌}
 use Rattle.std.proofs.Common.{rules}
+use Rattle.laws.specs.Checks.{stopped, shape_passed, went_on}
+use Rattle.laws.specs.Shape.{shaped}
+use Rattle.model.specs.Checks.{held_cell_rules}
 use Rattle.lease.proofs.held_cell_check.Goals as goal
 
-pub held_fault-list-requires : goal.held_fault-list-requires
-held_fault-list-requires c = sym c.shape_fits.ensures ∙ c.if-shape_fits.true
+pub held_fault-requires : goal.held_fault-requires
+held_fault-requires c = shape_passed _ _ (sym c.shape_fault.ensures ∙ c.in_ok-shape_fault.was)
 
 pub cell_fault-requires : goal.cell_fault-requires
-cell_fault-requires c = (shaped _ _ (sym c.shape_fits.ensures ∙ c.if-shape_fits.true)).few_cells
+cell_fault-requires c = (shaped _ _ (shape_passed _ _ (sym c.shape_fault.ensures ∙ c.in_ok-shape_fault.was))).few_cells
 
-pub returns-in-Fault : goal.returns-in-Fault
+pub returns-in_err-shape_fault : goal.returns-in_err-shape_fault
 unfolding held_cell_rules
-returns-in-Fault c = rw (shape_ok _ _ _ (sym c.shape_fits.ensures ∙ c.if-shape_fits.true), held_then _ _ _ _, ← c.held_fault-list.ensures, c.in-Fault.is)
+returns-in_err-shape_fault c = stopped (_ ∷ []) _ _ (search rules) (sym c.shape_fault.ensures ∙ c.in_err-shape_fault.was)
 
-pub returns-in-Fine : goal.returns-in-Fine
+pub returns-in_err-held_fault : goal.returns-in_err-held_fault
 unfolding held_cell_rules
-returns-in-Fine c = rw (shape_ok _ _ _ (sym c.shape_fits.ensures ∙ c.if-shape_fits.true), held_then _ _ _ _, ← c.held_fault-list.ensures, c.in-Fine.is, ← c.cell_fault.ensures)
+returns-in_err-held_fault c =
+    let e = stopped _ _ _ (search rules) (sym c.held_fault.ensures ∙ c.in_err-held_fault.was) in
+    went_on (_ ∷ []) _ e (sym c.shape_fault.ensures ∙ c.in_ok-shape_fault.was)
 
 pub returns : goal.returns
 unfolding held_cell_rules
-returns c = rw (shape_bad _ _ _ (sym c.shape_fits.ensures ∙ c.if-shape_fits.false))
+returns c =
+    let e = went_on _ _ c.cell_fault.ensures (sym c.held_fault.ensures ∙ c.in_ok-held_fault.was) in
+    went_on (_ ∷ []) _ e (sym c.shape_fault.ensures ∙ c.in_ok-shape_fault.was)

@@ -1,23 +1,9 @@
 -- `lease::is_in_from` meets its contract.
-use Prim.Native.Nat.{◌*◌, ◌-◌, ◌/◌}
-use mathlib.Core.Path.{◌≡◌, refl}
-use lib.ListN.{length, drop}
-use Rattle.model.specs.Arena.{holds_of, is_in}
-use Rattle.laws.specs.Checks.{is_in_at, is_in_end}
-use Rattle.std.proofs.Common.{rules}
+use native.Mathlib.Omega.{arith}
+use Rattle.model.specs.Arena.{is_in}
+use Rattle.laws.specs.Checks.{holds_end}
 use Rattle.lease.proofs.is_in_from.Goals as goal
 
-pub loop-i-init : goal.loop-i-init
-loop-i-init c = refl
-
-pub returns-then-same_hold : goal.returns-then-same_hold
-returns-then-same_hold c = let l = c.loop-i in let a = c.args in
-    rw (← l.invariant, is_in_at a.hold a.list.now l.i (search rules), ← c.same_hold.ensures, c.if-same_hold.true)
-
-pub loop-i-preserved : goal.loop-i-preserved
-loop-i-preserved c = let l = c.loop-i in let a = c.args in
-    rw (← l.invariant, is_in_at a.hold a.list.now l.i (search rules), ← c.same_hold.ensures, c.if-same_hold.false)
-
-pub returns : goal.returns
-returns c = let l = c.loop-i in let a = c.args in
-    rw (← l.invariant, is_in_end a.hold a.list.now l.i (search rules))
+pub returns-then-list-from : goal.returns-then-list-from
+unfolding is_in
+returns-then-list-from c = let a = c.args in rw (holds_end a.list.now a.from (omega (arith, c.if-list-from.true)))

@@ -4,18 +4,8 @@ use lib.ListN.{replicate}
 use Rattle.model.specs.Arena.{holds_of}
 use Rattle.foreign.specs.Fine.{guards_none}
 use Rattle.foreign.specs.Model.{in_scope}
-use Rattle.lock.specs.Fine.{some_buckets, header_there}
 use Rattle.lock.specs.Laws.{lock_quiet}
 use Rattle.lock.proofs.lock_alone.Goals as goal
-
-pub nonzero_div-header : goal.nonzero_div-header
-nonzero_div-header c = omega (arith, some_buckets c.args.scope c.args.cell c.requires.1.1)
-
-pub overflow_cast-header : goal.overflow_cast-header
-overflow_cast-header c = omega (arith, header_there c.args.scope c.args.cell c.requires.1.1, c.requires.0.bytes_fit)
-
-pub bounds-health-header : goal.bounds-health-header
-bounds-health-header c = omega (arith, header_there c.args.scope c.args.cell c.requires.1.1, c.requires.0.bytes_fit)
 
 pub returns-then-health-header-eq0 : goal.returns-then-health-header-eq0
 returns-then-health-header-eq0 c =

@@ -1,5 +1,5 @@
 -- `lock::quiet_take` meets its contract.
-use borrow.Author.Tests.{eq-eqb, ne_eqb}
+use borrow.Author.Tests.{eq-eqb}
 use Rattle.lock.specs.Laws.{take_claim}
 use Rattle.lock.specs.Model.{quiet_take_of}
 use Rattle.lock.proofs.quiet_take.Goals as goal
@@ -8,8 +8,4 @@ pub returns-then-waiters_at-eq0 : goal.returns-then-waiters_at-eq0
 unfolding quiet_take_of
 returns-then-waiters_at-eq0 c =
     let a = c.args in
-    rw (← c.waiters_at.ensures, eq-eqb _ _ c.if-waiters_at-eq0.true, take_claim a.head.headers a.head.buckets a.head.boot _ _ _, ← c.spent_to.ensures, ← c.claim_at-claim.ensures, ← c.boundaries_for.ensures, ← c.unwaited.ensures)
-
-pub returns : goal.returns
-unfolding quiet_take_of
-returns c = rw (← c.waiters_at.ensures, ne_eqb _ _ c.if-waiters_at-eq0.false)
+    rw (← c.waiters_at.ensures, eq-eqb _ _ c.if-waiters_at-eq0.true, take_claim a.head.headers a.head.buckets a.head.boot _ _ _, ← c.spent_to.ensures, ← c.claim_at-claim.ensures, ← c.boundaries_for.ensures)

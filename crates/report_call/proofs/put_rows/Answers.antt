@@ -1,22 +1,11 @@
 use Rattle.report_call.specs.Laws.{row_few, rows_turn, rows_end}
-use Rattle.report_rules.specs.Report.{rows_of}
 use Rattle.report_call.specs.Scan.{seen_in}
 use Rattle.print.specs.Laws.{put_place}
-use Rattle.print.specs.Print.{put_of}
-use lib.ListN.{length, get_or}
+use lib.ListN.{get_or}
 use native.Mathlib.Omega.{arith}
-use mathlib.Core.Path.{◌≡◌, refl, ◌∙◌}
-use Prim.Native.Nat.{◌≤◌, ◌-◌, ◌+◌, ◌*◌}
+use mathlib.Core.Path.{◌∙◌}
 use Rattle.std.proofs.Common.{rules}
 use Rattle.report_call.proofs.put_rows.Goals as goal
-
-pub loop-number-init : goal.loop-number-init
-loop-number-init c = (search rules, search rules, omega arith, refl)
-
-pub put_row-used-requires : goal.put_row-used-requires
-put_row-used-requires c =
-    let l = c.loop-number in
-    omega (arith, c.loop-number-test.true, l.invariant.0, l.invariant.2, c.requires)
 
 pub loop-number-preserved : goal.loop-number-preserved
 loop-number-preserved c =

@@ -1,11 +1,8 @@
-use Rattle.report_call.specs.Laws.{row_few, rows_turn, rows_end}
 use Rattle.report_rules.specs.Report.{rows_of}
 use Rattle.report_call.specs.Scan.{seen_in}
-use Rattle.print.specs.Laws.{put_place}
 use Rattle.print.specs.Print.{put_of}
-use lib.ListN.{length, get_or}
-use native.Mathlib.Omega.{arith}
-use mathlib.Core.Path.{◌≡◌, refl, ◌∙◌}
+use lib.ListN.{length}
+use mathlib.Core.Path.{◌≡◌}
 use Prim.Native.Nat.{◌≤◌, ◌-◌, ◌+◌, ◌*◌}
 use Rattle.report_call.proofs.put_rows.Given as goal
 

@@ -1,56 +1,46 @@
-use Rattle.report_call.specs.Laws.{line_read_lem, added_bounded, scan_turn, scan_bad, scan_over, scan_end}
-use Rattle.report_call.specs.Scan.{scan_from, scan_of, Bounded}
-use lib.ListN.{length}
+use Rattle.report_call.specs.Laws.{line_good, added_bounded, nothing_bounded, scan_turn, scan_bad, scan_over, scan_end}
+use Rattle.report_call.specs.Scan.{scan_of}
 use native.Mathlib.Omega.{arith}
 use mathlib.Core.Path.{◌≡◌, refl, ◌∙◌}
-use Prim.Native.Nat.{◌≤◌, ◌<◌, ◌-◌}
+use Prim.Native.Nat.{◌+◌, ◌<◌, ◌-◌}
 use Rattle.report_call.proofs.scan.Goals as goal
 
-pub loop-at-init : goal.loop-at-init
+pub loop-number-init : goal.loop-number-init
 unfolding scan_of
-loop-at-init c = rw c.no_sums-sums.ensures (c.requires, omega arith, refl)
+loop-number-init c = rw c.none-sums.ensures (nothing_bounded, refl, omega arith, refl)
 
-pub bad-requires : goal.bad-requires
-bad-requires c = omega (arith, c.loop-at.invariant.0.lines)
+pub returns-then-input-at : goal.returns-then-input-at
+returns-then-input-at c = let l = c.loop-number in scan_end c.args.input.now (1001 - l.number) l.at l.sums c.if-input-at.true ∙ l.invariant.3
 
-pub returns-then-sums-eq1000 : goal.returns-then-sums-eq1000
-returns-then-sums-eq1000 c =
-    let l = c.loop-at in
-    rw c.bad.ensures (scan_over c.args.input.now l.at l.sums l.counts c.loop-at-test.true c.if-sums-eq1000.true ∙ l.invariant.2)
+pub returns-in_default : goal.returns-in_default
+returns-in_default c =
+    let l = c.loop-number in
+    let n : l.number ≡ l.sums.trials + 1 = omega arith in
+    rw n (scan_bad c.args.input.now l.number l.at l.sums (omega arith) c.if-input-at.false c.in_default.ensures ∙ l.invariant.3)
 
-pub add-sums-requires : goal.add-sums-requires
-add-sums-requires c =
-    let l = c.loop-at in
-    let good = line_read_lem c.args.input.now l.at _ c.line_at-line.ensures c.if-line.true in
-    (l.invariant.0, omega (arith, l.invariant.0.lines, c.if-sums-eq1000.false), good.small)
+pub add-requires : goal.add-requires
+add-requires c =
+    let l = c.loop-number in
+    let good = line_good c.args.input.now l.at c.in-Some.line c.in-Some.ensures in
+    (l.invariant.0, omega arith, good.small)
 
-pub loop-at-smaller : goal.loop-at-smaller
-loop-at-smaller c =
-    let l = c.loop-at in
-    let good = line_read_lem c.args.input.now l.at _ c.line_at-line.ensures c.if-line.true in
-    omega (arith, good.on, good.within)
-
-pub loop-at-preserved : goal.loop-at-preserved
-loop-at-preserved c =
-    let l = c.loop-at in
-    let input = c.args.input.now in
-    let good = line_read_lem input l.at _ c.line_at-line.ensures c.if-line.true in
-    let few : l.sums.trials < 1000 = omega (arith, l.invariant.0.lines, c.if-sums-eq1000.false) in (
-      added_bounded l.sums _ l.counts _ _ l.invariant.0 few good.small c.add-sums.ensures,
+pub loop-number-preserved : goal.loop-number-preserved
+loop-number-preserved c =
+    let l = c.loop-number in
+    let good = line_good c.args.input.now l.at c.in-Some.line c.in-Some.ensures in
+    let few : l.sums.trials < 1000 = omega arith in
+    rw c.add.ensures (
+      added_bounded l.sums c.in-Some.line.trial l.invariant.0 few good.small,
+      omega arith,
       good.within,
-      scan_turn input l.at l.sums _ l.counts _ _ c.loop-at-test.true few c.line_at-line.ensures c.if-line.true c.add-sums.ensures ∙ l.invariant.2,
+      scan_turn c.args.input.now l.number l.at l.sums c.in-Some.line (omega arith) c.if-input-at.false c.in-Some.ensures ∙ l.invariant.3,
     )
 
-pub bad-requires-else-line : goal.bad-requires-else-line
-bad-requires-else-line c = omega (arith, c.loop-at.invariant.0.lines)
-
-pub returns-else-line : goal.returns-else-line
-returns-else-line c =
-    let l = c.loop-at in
-    let few : l.sums.trials < 1000 = omega (arith, l.invariant.0.lines, c.if-sums-eq1000.false) in
-    rw c.bad-else-line.ensures (scan_bad c.args.input.now l.at l.sums l.counts _ c.loop-at-test.true few c.line_at-line.ensures c.if-line.false ∙ l.invariant.2)
+pub returns-then-at-input : goal.returns-then-at-input
+returns-then-at-input c =
+    let l = c.loop-number in
+    let n : 1001 ≡ l.sums.trials + 1 = omega arith in
+    rw n (scan_over c.args.input.now l.number l.at l.sums c.loop-number-test.false c.if-at-input.true ∙ l.invariant.3)
 
 pub returns : goal.returns
-returns c =
-    let l = c.loop-at in
-    scan_end c.args.input.now (1000 - l.sums.trials) l.at l.sums l.counts c.loop-at-test.false ∙ l.invariant.2
+returns c = let l = c.loop-number in scan_end c.args.input.now (1001 - l.number) l.at l.sums c.if-at-input.false ∙ l.invariant.3

@@ -1,19 +1,11 @@
-use Rattle.report_names.specs.Table.{table_of, row_named, padded_size, no_name, no_name_first}
+use Rattle.report_names.specs.Table.{table_of, row_named, no_name}
 use Rattle.model.specs.Names.{names}
-use lib.ListN.{length}
-use mathlib.Core.Path.{refl, sym, ap, ◌∙◌}
 use Rattle.std.proofs.Common.{rules}
 use Rattle.report_names.proofs.padded.Goals as goal
 
-pub returns-then-number-lt1 : goal.returns-then-number-lt1
-returns-then-number-lt1 c = rw (no_name_first c.args.number c.if-number-lt1.true) record { value = refl; value_2 = refl }
+pub returns-then-number-lt1-clause-value : goal.returns-then-number-lt1-clause-value
+returns-then-number-lt1-clause-value c = rw (no_name c.args.number c.then-number-lt1.either)
 
-pub returns-then-number-gt16 : goal.returns-then-number-gt16
-returns-then-number-gt16 c = rw (no_name c.args.number c.if-number-gt16.true) record { value = refl; value_2 = refl }
-
-pub returns : goal.returns
+pub returns-clause-value : goal.returns-clause-value
 unfolding table_of names
-returns c =
-    let n = c.args.number in
-    let e = row_named n _ (search rules) (search rules) in
-    record { value = e; value_2 = padded_size n ∙ ap length (sym e) }
+returns-clause-value c = row_named c.args.number _ (search rules) (search rules)

@@ -1,9 +1,6 @@
 -- `salvage::count_cells` meets its contract.
 use native.Mathlib.Omega.{arith}
-use Prim.Native.Nat.{◌+◌, ◌*◌, ◌-◌, ◌≤◌}
-use mathlib.Core.Path.{◌≡◌}
-use lib.ListN.{length}
-use Rattle.salvage.specs.Laws.{changes_left, held_left, count_cells_of, count_held_of, count_start, count_turn, count_end, held_count_start, held_turn_length, held_count_end, tally_parts, tally_cells_lem}
+use Rattle.salvage.specs.Laws.{count_start, count_turn, count_end, held_count_start, held_turn_length, held_count_end, tally_parts, tally_cells_lem}
 use Rattle.std.proofs.Common.{rules}
 use Rattle.salvage.proofs.count_cells.Goals as goal
 

@@ -1,19 +1,12 @@
 -- `salvage::list_cells` meets its contract.
 use native.Mathlib.Omega.{arith}
-use Prim.Native.Nat.{◌+◌, ◌-◌, ◌≤◌}
-use mathlib.Core.Path.{◌≡◌, sym, ap, ◌∙◌}
+use mathlib.Core.Path.{sym, ap, ◌∙◌}
 use mathlib.Core.List.{List}
 use lib.ListN.{length}
 use lib.Seq.{sets}
-use Rattle.salvage.specs.Laws.{used_from, used_left, used_start, used_go, used_end, used_fits}
+use Rattle.salvage.specs.Laws.{used_go, used_end, used_fits}
 use Rattle.std.proofs.Common.{rules}
 use Rattle.salvage.proofs.list_cells.Goals as goal
-
-pub loop-cell-init : goal.loop-cell-init
-loop-cell-init c =
-    let a = c.args in
-    let e = used_start a.table.now a.cells in
-    (search rules, search rules, rw e (omega arith), rw e)
 
 pub list_cell-left-requires : goal.list_cell-left-requires
 list_cell-left-requires c =

@@ -1,9 +1,8 @@
 -- `salvage::mend_bytes` meets its contract.
 use native.Mathlib.Omega.{arith}
-use Prim.Native.Nat.{◌-◌, ◌≤◌}
-use mathlib.Core.Path.{◌≡◌, refl, ◌∙◌}
+use mathlib.Core.Path.{refl, ◌∙◌}
 use lib.ListN.{length}
-use Rattle.salvage.specs.Laws.{bytes_from, mended_bytes, bytes_all, bytes_go, bytes_stop, bytes_fit}
+use Rattle.salvage.specs.Laws.{bytes_all, bytes_go, bytes_stop, bytes_fit}
 use Rattle.std.proofs.Common.{rules}
 use Rattle.salvage.proofs.mend_bytes.Goals as goal
 

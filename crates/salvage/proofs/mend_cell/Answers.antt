@@ -21,23 +21,23 @@ other c =
     here a.next a.table.now a.cell _ _ _ c.bit_at-bit.ensures c.owner_at-owner.ensures c.is_held.ensures ∙ c.if-is_held.false
 
 room : (c : Else-is_held) → let a = c.args in
-    a.at + length (change_of (3 * a.cell) c.bit_at-bit.result 0) + length (change_of (3 * a.cell + 1) c.owner_at-owner.result 0) + length (change_of (3 * a.cell + 2) c.waiters_at-waiters.result 0) ≤ length a.report.now
+    a.ends.at + length (change_of (3 * a.cell) c.bit_at-bit.result 0) + length (change_of (3 * a.cell + 1) c.owner_at-owner.result 0) + length (change_of (3 * a.cell + 2) c.waiters_at-waiters.result 0) ≤ length a.report.now
 room c =
     let a = c.args in
-    fits_other a.next a.table.now a.cell a.at _ _ _ _ (other c) c.bit_at-bit.ensures c.owner_at-owner.ensures c.waiters_at-waiters.ensures c.requires.2
+    fits_other a.next a.table.now a.cell a.ends.at _ _ _ _ (other c) c.bit_at-bit.ensures c.owner_at-owner.ensures c.waiters_at-waiters.ensures c.requires.2
 
-pub bounds-list-left : goal.bounds-list-left
-bounds-list-left c = let a = c.args in omega (arith, held_in_one a.next a.table.now a.cell (held (goal.at.bounds-list-left c).Then-is_held), c.requires.3)
+pub bounds-list-ends : goal.bounds-list-ends
+bounds-list-ends c = let a = c.args in omega (arith, held_in_one a.next a.table.now a.cell (held (goal.at.bounds-list-ends c).Then-is_held), c.requires.3)
 
 pub clear_word-end-requires : goal.clear_word-end-requires
 clear_word-end-requires c =
     let a = c.args in
-    (search rules, c.waiters_at-waiters.ensures ∙ waiters_read a.table.now a.cell, fits_held a.next a.table.now a.cell a.at _ _ (held (goal.at.clear_word-end-requires c).Then-is_held) c.waiters_at-waiters.ensures c.requires.2)
+    (search rules, c.waiters_at-waiters.ensures ∙ waiters_read a.table.now a.cell, fits_held a.next a.table.now a.cell a.ends.at _ _ (held (goal.at.clear_word-end-requires c).Then-is_held) c.waiters_at-waiters.ensures c.requires.2)
 
 pub returns-then-is_held : goal.returns-then-is_held
 returns-then-is_held c =
     let a = c.args in
-    mended_held a.next a.table.now a.cell _ _ _ a.list.now _ _ _ a.left (held (goal.at.returns-then-is_held c).Then-is_held) c.waiters_at-waiters.ensures c.clear_word-end.ensures
+    mended_held a.next a.table.now a.cell _ _ _ a.list.now _ _ _ a.ends.left (held (goal.at.returns-then-is_held c).Then-is_held) c.waiters_at-waiters.ensures c.clear_word-end.ensures
 
 pub clear_word-a-requires : goal.clear_word-a-requires
 clear_word-a-requires c =
@@ -63,4 +63,4 @@ clear_word-c-requires c =
 pub returns : goal.returns
 returns c =
     let a = c.args in
-    mended_other a.next a.table.now a.cell _ _ _ _ _ _ _ a.list.now _ _ _ _ _ _ _ a.left (other (goal.at.returns c).Else-is_held) c.bit_at-bit.ensures c.owner_at-owner.ensures c.waiters_at-waiters.ensures c.clear_word-a.ensures c.clear_word-b.ensures c.clear_word-c.ensures
+    mended_other a.next a.table.now a.cell _ _ _ _ _ _ _ a.list.now _ _ _ _ _ _ _ a.ends.left (other (goal.at.returns c).Else-is_held) c.bit_at-bit.ensures c.owner_at-owner.ensures c.waiters_at-waiters.ensures c.clear_word-a.ensures c.clear_word-b.ensures c.clear_word-c.ensures

@@ -1,15 +1,9 @@
 -- `skid_words::put_counts` meets its contract. The loop's invariant: what storing the counts from here on leaves is what storing all of them leaves.
-use Prim.Native.Nat.{ℕ, ◌+◌, ◌≤◌, ◌-◌}
-use mathlib.Core.Path.{◌≡◌, sym, ap, ◌∙◌}
-use native.Mathlib.Omega.{arith}
-use lib.Seq.{sets}
-use Rattle.skid_rules.specs.Words.{each_of}
+use Prim.Native.Nat.{◌-◌}
+use mathlib.Core.Path.{sym, ◌∙◌}
 use Rattle.skid_rules.specs.Laws.{put_at, put_end}
 use Rattle.std.proofs.Common.{rules}
 use Rattle.skid_words.proofs.put_counts.Goals as goal
-
-pub loop-i-init : goal.loop-i-init
-loop-i-init c = let e : c.args.at + 0 ≡ c.args.at = omega arith in (search rules, ap (λ (n : ℕ). sets c.args.words.now n (each_of 16 0 c.args.counts.now)) e)
 
 pub loop-i-preserved : goal.loop-i-preserved
 loop-i-preserved c = let l = c.loop-i in let a = c.args in

@@ -9,6 +9,3 @@ use Rattle.skid_words.proofs.put_counts.Given as goal
 
 abbrev pub invariant-loop-i : goal.invariant-loop-i
 invariant-loop-i l = (l.i ≤ 16) × (sets l.words (l.at + l.i) (each_of (16 - l.i) l.i l.counts) ≡ sets l.initial.words l.at (each_of 16 0 l.counts))
-
-abbrev pub decreases-loop-i : goal.decreases-loop-i
-decreases-loop-i l = 16 - l.i

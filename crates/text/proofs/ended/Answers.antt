@@ -1,25 +1,17 @@
 -- `text::ended` meets its contract.
-use Prim.Native.Nat.{◌-◌}
-use mathlib.Core.Path.{◌≡◌}
-use native.Mathlib.Omega.{arith}
-use borrow.Author.Tests.{eq-eqb, ne_eqb}
+use borrow.Author.Tests.{eq-eqb, ne_eqb, lt-ltb}
 use Rattle.text.specs.Text.{ended_number_of}
+use Rattle.text.specs.Laws.{unpadded_is}
 use Rattle.text.proofs.ended.Goals as goal
 
-pub returns-then-i-at : goal.returns-then-i-at
+pub returns-then-digits-eq0 : goal.returns-then-digits-eq0
 unfolding ended_number_of
-returns-then-i-at c = let a = c.args in
-    let e : a.i - a.at ≡ 0 = omega arith in rw (eq-eqb _ _ e, ← c.none.ensures)
+returns-then-digits-eq0 c = rw (eq-eqb _ _ c.if-digits-eq0.true)
 
-pub bounds-line-at : goal.bounds-line-at
-bounds-line-at c = omega (arith, c.requires.1 (omega arith))
-
-pub returns-then-padded : goal.returns-then-padded
+pub returns-then-digits-gt1 : goal.returns-then-digits-gt1
 unfolding ended_number_of
-returns-then-padded c = let a = c.args in
-    let e : a.i - a.at ≡ 0 → ⊥ = omega arith in rw (ne_eqb _ _ e, ← c.padded.ensures, c.if-padded.true, ← c.none-then-padded.ensures)
+returns-then-digits-gt1 c = rw (ne_eqb _ _ c.if-digits-eq0.false, eq-eqb _ _ c.if-bytes-eq48.true, lt-ltb _ _ c.if-digits-gt1.true)
 
 pub returns : goal.returns
 unfolding ended_number_of
-returns c = let a = c.args in
-    let e : a.i - a.at ≡ 0 → ⊥ = omega arith in rw (ne_eqb _ _ e, ← c.padded.ensures, c.if-padded.false)
+returns c = rw (ne_eqb _ _ c.if-digits-eq0.false, unpadded_is _ _ c.else-bytes-eq48.either)

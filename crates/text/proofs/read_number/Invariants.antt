@@ -1,12 +1,9 @@
 -- `text::read_number` meets its contract.
-use Prim.Native.Nat.{◌≤◌, ◌-◌, ◌+◌, ◌<◌}
+use Prim.Native.Nat.{◌≤◌, ◌+◌}
 use mathlib.Core.Path.{◌≡◌}
-use lib.ListN.{length, drop}
+use lib.ListN.{drop}
 use Rattle.text.specs.Text.{value_from, digits_in}
 use Rattle.text.proofs.read_number.Given as goal
 
-abbrev pub invariant-loop-i : goal.invariant-loop-i
-invariant-loop-i l = (l.value ≤ 4294967295) × (l.at ≤ l.i) × (l.at < l.i → l.i ≤ length l.line) × (value_from l.value (drop l.i l.line) ≡ value_from 0 (drop l.at l.line)) × ((l.i - l.at) + digits_in (drop l.i l.line) ≡ digits_in (drop l.at l.line))
-
-abbrev pub decreases-loop-i : goal.decreases-loop-i
-decreases-loop-i l = length l.line - l.i
+abbrev pub invariant-loop-digits : goal.invariant-loop-digits
+invariant-loop-digits l = (l.value ≤ 4294967295) × (value_from l.value (drop l.digits l.rest) ≡ value_from 0 l.rest) × (l.digits + digits_in (drop l.digits l.rest) ≡ digits_in l.rest)

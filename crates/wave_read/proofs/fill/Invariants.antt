@@ -1,14 +1,13 @@
 -- `wave_read::fill` meets its contract.
-use Prim.Native.Nat.{◌≤◌, ◌-◌, ◌+◌}
-use mathlib.Core.Path.{◌≡◌, refl, ◌∙◌}
-use native.Mathlib.Omega.{arith}
+use Prim.Native.Nat.{◌≤◌, ◌-◌}
+use mathlib.Core.Path.{◌≡◌}
 use lib.ListN.{length, drop}
 use Rattle.wave_rules.specs.declared.Stage.TheVariants.{Waiting}
 use Rattle.wave_rules.specs.Lines.{split_of}
-use Rattle.wave_rules.specs.Dump.{no_bits, flip_of}
+use Rattle.wave_rules.specs.Dump.{no_bits}
 use Rattle.wave_rules.specs.Reader.{script_words_of}
 use Rattle.print.specs.Print.{put_of}
-use Rattle.wave_read.specs.Laws.{Right, right_time, pair_of, put_turn, put_room, put_all, words_end}
+use Rattle.wave_read.specs.Laws.{Right}
 use Rattle.wave_read.proofs.fill.Given as goal
 
 abbrev pub invariant-loop-at : goal.invariant-loop-at

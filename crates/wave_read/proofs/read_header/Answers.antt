@@ -1,90 +1,62 @@
 -- `wave_read::read_header` meets its contract.
-use Prim.Native.Nat.{◌≤◌, ◌-◌, ◌+◌}
-use mathlib.Core.Path.{◌≡◌, refl, sym, ◌∙◌}
-use native.Mathlib.Omega.{arith}
-use lib.ListN.{length, drop}
-use Rattle.wave_rules.specs.declared.Stage.TheVariants.{Opening}
-use Rattle.wave_rules.specs.Lines.{split_of}
+use Rattle.std.proofs.Common.{◌≡◌, ◌+◌, ◌-◌, ◌<◌, length, take, drop, Some, ◌∙◌, sym, refl, arith, rules}
+use Rattle.text.specs.Text.{before}
 use Rattle.wave_rules.specs.Dump.{no_bits}
-use Rattle.wave_rules.specs.Reader.{verdict_of, script_words_of}
-use Rattle.wave_rules.specs.Stages.{Reach}
+use Rattle.wave_rules.specs.Reader.{next_of}
 use Rattle.wave_rules.proofs.Stages.{reach_next}
-use Rattle.wave_line.specs.Stages.{Early}
 use Rattle.wave_line.specs.Laws.{next_early, early_end}
-use Rattle.wave_read.specs.Laws.{line_found, scan_end, scan_stop, scan_lost, headed_wrong, headed_right, early_scan, early_turn}
-use Rattle.std.proofs.Common.{rules}
+use Rattle.wave_read.specs.Laws.{line_found, scan_end, scan_stop, scan_lost, headed_right, early_scan, early_turn}
+use Rattle.wave_read.proofs.read_header.Goals.{In-Some, In-Some-next}
 use Rattle.wave_read.proofs.read_header.Goals as goal
 
 pub loop-at-init : goal.loop-at-init
 loop-at-init c = (tt, tt, search rules, search rules, refl, refl)
 
-pub returns-then-end-text : goal.returns-then-end-text
-returns-then-end-text c =
+pub returns-in_default : goal.returns-in_default
+returns-in_default c =
     let l = c.loop-at in
     let a = c.args in
-    headed_wrong a.text.now _ l.k c.wrong.ensures (scan_stop a.text.now l.at _ l.k l.stage no_bits (search rules) c.line_end-end.ensures.value c.if-end-text.true ∙ l.invariant.4)
+    scan_stop a.text.now l.at l.k l.stage no_bits c.loop-at-test.true (sym c.in_default.is ∙ c.line_end.ensures.value) ∙ l.invariant.4
 
-pub slice_bounds-next-start : goal.slice_bounds-next-start
-slice_bounds-next-start c = omega (arith, c.line_end-end.ensures.lower_bound)
+-- the line ends before the text does
+found : (c : In-Some) → (c.in-Some.end ≡ c.loop-at.at + before 10 (drop c.loop-at.at c.args.text.now)) × (c.in-Some.end < length c.args.text.now)
+found c = line_found c.args.text.now c.loop-at.at c.in-Some.end (omega arith) (sym c.in-Some.is ∙ c.line_end.ensures.value)
 
-pub slice_bounds-next-end : goal.slice_bounds-next-end
-slice_bounds-next-end c = omega (arith, c.line_end-end.ensures.lower_bound)
+-- and leads on
+leads : (c : In-Some-next) → next_of c.loop-at.stage no_bits (take (c.in-Some.end - c.loop-at.at) (drop c.loop-at.at c.args.text.now)) ≡ Some c.in-Some-next.after
+leads c = sym c.next.ensures ∙ c.in-Some-next.is
 
-pub next-after-requires : goal.next-after-requires
-next-after-requires c = (c.loop-at.invariant.0, c.loop-at.invariant.1)
-
-pub returns-then-is_lost : goal.returns-then-is_lost
-returns-then-is_lost c =
+pub returns-in_default-next : goal.returns-in_default-next
+returns-in_default-next c =
     let l = c.loop-at in
     let a = c.args in
-    let e = c.line_end-end.ensures in
-    let inside = c.if-end-text.false in
-    headed_wrong a.text.now _ l.k c.wrong-then-is_lost.ensures (scan_lost a.text.now l.at _ l.k l.stage _ no_bits (line_found a.text.now l.at _ e.value inside) (omega (arith, e.lower_bound, inside)) c.next-after.ensures (sym c.is_lost.ensures ∙ c.if-is_lost.true) ∙ l.invariant.4)
+    let f = found (goal.at.returns-in_default-next c).In-Some in
+    scan_lost a.text.now l.at _ l.k l.stage no_bits f.0 f.1 (sym c.next.ensures ∙ c.in_default-next.is) ∙ l.invariant.4
 
-pub overflow_add-result : goal.overflow_add-result
-overflow_add-result c = omega (arith, c.line_end-end.ensures.lower_bound, c.if-end-text.false)
-
-pub overflow_add-result-then-cells-gt0 : goal.overflow_add-result-then-cells-gt0
-overflow_add-result-then-cells-gt0 c = omega (arith, c.loop-at.invariant.2, c.line_end-end.ensures.lower_bound, c.if-end-text.false)
-
-pub returns-then-cells-gt0 : goal.returns-then-cells-gt0
-returns-then-cells-gt0 c =
+pub returns-in-Waiting : goal.returns-in-Waiting
+returns-in-Waiting c =
     let l = c.loop-at in
     let a = c.args in
-    let e = c.line_end-end.ensures in
-    let inside = c.if-end-text.false in
-    let f = line_found a.text.now l.at _ e.value inside in
-    let live = sym c.is_lost.ensures ∙ c.if-is_lost.false in
-    headed_right a.text.now l.at _ l.k l.stage _ _ l.invariant.0 l.invariant.1 l.invariant.2 f (omega (arith, e.lower_bound, inside)) c.next-after.ensures live c.waits-cells.ensures c.if-cells-gt0.true l.invariant.4 l.invariant.5
-
-pub overflow_add-at : goal.overflow_add-at
-overflow_add-at c = omega (arith, c.line_end-end.ensures.lower_bound, c.if-end-text.false)
-
-pub overflow_add-k : goal.overflow_add-k
-overflow_add-k c = omega (arith, c.loop-at.invariant.2, c.line_end-end.ensures.lower_bound, c.if-end-text.false)
-
-pub loop-at-smaller : goal.loop-at-smaller
-loop-at-smaller c = omega (arith, c.line_end-end.ensures.lower_bound, c.if-end-text.false, c.loop-at-test.true)
+    let f = found (goal.at.returns-in-Waiting c).In-Some in
+    let n = leads (goal.at.returns-in-Waiting c).In-Some-next in
+    headed_right a.text.now l.at _ l.k l.stage _ _ _ l.invariant.0 l.invariant.1 l.invariant.2 f.0 f.1 n c.in-Waiting.is l.invariant.4 l.invariant.5
 
 pub loop-at-preserved : goal.loop-at-preserved
 loop-at-preserved c =
     let l = c.loop-at in
     let a = c.args in
-    let e = c.line_end-end.ensures in
-    let inside = c.if-end-text.false in
-    let f = line_found a.text.now l.at _ e.value inside in
-    let live = sym c.is_lost.ensures ∙ c.if-is_lost.false in
-    let next = c.next-after.ensures in (
-      rw next (reach_next l.stage no_bits _ l.invariant.0),
-      next_early l.stage no_bits _ l.invariant.1 _ next l.invariant.0 live (omega (arith, c.waits-cells.ensures, c.if-cells-gt0.false)),
-      omega (arith, l.invariant.2, e.lower_bound),
-      omega (arith, e.lower_bound, inside),
-      early_scan a.text.now l.at _ l.k l.stage _ l.invariant.1 f (omega (arith, e.lower_bound, inside)) next live ∙ l.invariant.4,
-      early_turn a.text.now l.at _ l.stage _ l.invariant.1 f (omega (arith, e.lower_bound, inside)) next ∙ l.invariant.5,
+    let f = found (goal.at.loop-at-preserved c).In-Some in
+    let n = leads (goal.at.loop-at-preserved c).In-Some-next in (
+      reach_next l.stage no_bits _ _ n l.invariant.0,
+      next_early l.stage no_bits _ l.invariant.1 _ n c.in_default-after.not-Waiting,
+      omega (arith, l.invariant.2, f.0),
+      omega (arith, f.1),
+      early_scan a.text.now l.at _ l.k l.stage _ l.invariant.1 f.0 f.1 n ∙ l.invariant.4,
+      early_turn a.text.now l.at _ l.stage _ l.invariant.1 f.0 f.1 n ∙ l.invariant.5,
     )
 
 pub returns : goal.returns
 returns c =
     let l = c.loop-at in
     let a = c.args in
-    headed_wrong a.text.now _ l.k c.wrong-2.ensures (early_end l.stage l.k l.invariant.1 ∙ scan_end a.text.now l.at l.k l.stage no_bits (search rules) ∙ l.invariant.4)
+    early_end l.stage l.k l.invariant.1 ∙ scan_end a.text.now l.at l.k l.stage no_bits (search rules) ∙ l.invariant.4

@@ -1,17 +1,13 @@
 -- `wave_read::read_header` meets its contract.
 use Prim.Native.Nat.{◌≤◌, ◌-◌, ◌+◌}
-use mathlib.Core.Path.{◌≡◌, refl, sym, ◌∙◌}
-use native.Mathlib.Omega.{arith}
+use mathlib.Core.Path.{◌≡◌}
 use lib.ListN.{length, drop}
 use Rattle.wave_rules.specs.declared.Stage.TheVariants.{Opening}
 use Rattle.wave_rules.specs.Lines.{split_of}
 use Rattle.wave_rules.specs.Dump.{no_bits}
 use Rattle.wave_rules.specs.Reader.{verdict_of, script_words_of}
 use Rattle.wave_rules.specs.Stages.{Reach}
-use Rattle.wave_rules.proofs.Stages.{reach_next}
 use Rattle.wave_line.specs.Stages.{Early}
-use Rattle.wave_line.specs.Laws.{next_early, early_end}
-use Rattle.wave_read.specs.Laws.{line_found, scan_end, scan_stop, scan_lost, headed_wrong, headed_right, early_scan, early_turn}
 use Rattle.wave_read.proofs.read_header.Given as goal
 
 abbrev pub invariant-loop-at : goal.invariant-loop-at

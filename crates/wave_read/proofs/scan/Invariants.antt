@@ -1,14 +1,11 @@
 -- `wave_read::scan` meets its contract.
 use Prim.Native.Nat.{◌≤◌, ◌-◌, ◌+◌}
-use mathlib.Core.Path.{◌≡◌, refl, sym, ◌∙◌}
-use native.Mathlib.Omega.{arith}
+use mathlib.Core.Path.{◌≡◌}
 use lib.ListN.{length, drop}
 use Rattle.wave_rules.specs.declared.Stage.TheVariants.{Waiting}
 use Rattle.wave_rules.specs.Lines.{split_of}
-use Rattle.wave_rules.specs.Dump.{no_bits, flip_of}
+use Rattle.wave_rules.specs.Dump.{no_bits}
 use Rattle.wave_rules.specs.Reader.{verdict_of}
-use Rattle.wave_line.specs.Fronts.{change_told}
-use Rattle.wave_read.specs.Laws.{scan_end, wait_past, wait_far, wait_right, change_wrong, change_right}
 use Rattle.wave_read.proofs.scan.Given as goal
 
 abbrev pub invariant-loop-at : goal.invariant-loop-at

@@ -1,5 +1,5 @@
--- `wave_write::digit_count` meets its contract: the number of places that the tests leave is the fewest.
-use native.Mathlib.Omega.{arith}
+-- `wave_write::digit_count` meets its contract.
+use Rattle.std.proofs.Common.{arith}
 use Rattle.text.specs.Decimal.{digit_count_is}
 use Rattle.wave_write.proofs.digit_count.Goals as goal
 
@@ -15,5 +15,5 @@ returns-then-t-ge100 c = digit_count_is c.args.t 3 (omega arith) (omega arith, o
 pub returns-then-t-ge10 : goal.returns-then-t-ge10
 returns-then-t-ge10 c = digit_count_is c.args.t 2 (omega arith) (omega arith, omega arith, λ e. omega arith)
 
-pub returns : goal.returns
-returns c = digit_count_is c.args.t 1 (omega arith) (omega arith, omega arith, λ e. omega arith)
+pub returns-else-t-ge10 : goal.returns-else-t-ge10
+returns-else-t-ge10 c = digit_count_is c.args.t 1 (omega arith) (omega arith, omega arith, λ e. omega arith)

@@ -11,10 +11,10 @@ pub put_bit-requires : goal.put_bit-requires
 unfolding joined
 put_bit-requires c =
     let t = c.args.t in
-    omega (arith, put_place _ _ _ _ _ c.put_step_time-a.ensures, c.put_step_time-a.auto, length_line (time_line t) [], length_time t)
+    omega (arith, put_place _ _ _ _ _ c.put_time-a.ensures, c.put_time-a.auto, length_line (time_line t) [], length_time t)
 
 pub returns : goal.returns
 returns c =
     let a = c.args in
     rw (joined_line (time_line a.t) (bit_line a.bit a.cell ∷ []))
-    (put_join _ _ _ _ _ _ (joined (time_line a.t ∷ [])) (joined (bit_line a.bit a.cell ∷ [])) c.put_step_time-a.ensures c.put_bit.ensures)
+    (put_join _ _ _ _ _ _ (joined (time_line a.t ∷ [])) (joined (bit_line a.bit a.cell ∷ [])) c.put_time-a.ensures c.put_bit.ensures)

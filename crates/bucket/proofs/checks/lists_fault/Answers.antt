@@ -1,9 +1,15 @@
 -- `bucket::checks::lists_fault` meets its contract.
-use Rattle.bucket.specs.Fine.{lists_then}
+use mathlib.Core.Path.{sym, ◌∙◌}
+use Rattle.std.specs.Prelude.{[], ◌∷◌}
+use Rattle.std.proofs.Common.{rules}
+use Rattle.laws.specs.Checks.{stopped, went_on}
+use Rattle.bucket.specs.Fine.{list_rules}
 use Rattle.bucket.proofs.checks.lists_fault.Goals as goal
 
-pub returns-in-Fault : goal.returns-in-Fault
-returns-in-Fault c = rw (lists_then _ _ _ _ _ _, ← c.registry_fault-names.ensures, c.in-Fault.is)
+pub returns-in_err-registry_fault : goal.returns-in_err-registry_fault
+unfolding list_rules
+returns-in_err-registry_fault c = stopped (_ ∷ []) _ _ (search rules) (sym c.registry_fault.ensures ∙ c.in_err-registry_fault.was)
 
-pub returns-in-Fine : goal.returns-in-Fine
-returns-in-Fine c = rw (lists_then _ _ _ _ _ _, ← c.registry_fault-names.ensures, c.in-Fine.is, ← c.lists_fault.ensures)
+pub returns : goal.returns
+unfolding list_rules
+returns c = went_on (_ ∷ []) _ c.lists_fault.ensures (sym c.registry_fault.ensures ∙ c.in_ok-registry_fault.was)

@@ -1,19 +1,10 @@
 -- `bucket::quiet::quiet_retry` meets its contract.
 use Prim.Native.Nat.{◌-◌}
-use mathlib.Core.Path.{refl}
 use native.Mathlib.Omega.{arith}
 use Rattle.bucket.specs.Bounds.{try_most}
-use Rattle.bucket.specs.Quiet.{Waiting, more_few, attempt_few, pause_few, wait_at, wait_end}
+use Rattle.bucket.specs.Quiet.{more_few, attempt_few, pause_few, wait_at, wait_end}
 use Rattle.std.proofs.Common.{rules}
 use Rattle.bucket.proofs.quiet.quiet_retry.Goals as goal
-
-pub loop-i-init : goal.loop-i-init
-loop-i-init c = record { counts = c.requires.1; few = search rules; words = refl; rest = refl }
-
-pub quiet_attempt-tried-requires : goal.quiet_attempt-tried-requires
-quiet_attempt-tried-requires c =
-    let l = c.loop-i in
-    (omega (arith, l.invariant.words, c.requires.0), more_few _ _ _ (omega (arith, l.invariant.few)) l.invariant.counts)
 
 pub quiet_pause-run-requires : goal.quiet_pause-run-requires
 quiet_pause-run-requires c =

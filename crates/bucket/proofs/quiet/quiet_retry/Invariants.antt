@@ -9,7 +9,3 @@ use Rattle.bucket.proofs.quiet.quiet_retry.Given as goal
 abbrev pub invariant-loop-i : goal.invariant-loop-i
 invariant-loop-i l =
     Waiting l.cell l.initial.run l.initial.table l.i l.last l.run l.table
-
-abbrev pub decreases-loop-i : goal.decreases-loop-i
-decreases-loop-i l =
-    4096 - l.i

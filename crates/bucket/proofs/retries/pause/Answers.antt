@@ -1,7 +1,5 @@
 -- `bucket::retries::pause` meets its contract.
 use native.Mathlib.Omega.{arith}
-use borrow.Author.Tests.{eq-eqb, ne_eqb}
-use Rattle.model.specs.Lock.{pause_of}
 use Rattle.foreign.specs.Laws.{boundary_goes}
 use Rattle.std.proofs.Common.{rules}
 use Rattle.bucket.proofs.retries.pause.Goals as goal
@@ -10,12 +8,4 @@ pub spin-requires : goal.spin-requires
 spin-requires c =
     let room = c.requires.0 in
     let run-bound = c.requires.1 in
-    (record { words_fit = search rules; bytes_fit = search rules; few_taken = room.few_taken; steps_are = room.steps_are }, record { flow_bound = boundary_goes _ _ _ _ _ _ _ _ _ room.steps_are c.boundary-after.ensures run-bound.flow_bound; few_attempts = omega (arith, run-bound.few_attempts); few_boundaries = omega (arith, run-bound.few_boundaries); few_yields = omega (arith, run-bound.few_yields) })
-
-pub returns-then-i-eq63 : goal.returns-then-i-eq63
-unfolding pause_of
-returns-then-i-eq63 c = rw (eq-eqb _ _ c.if-i-eq63.true, ← c.boundary-after.ensures, ← c.spin.ensures)
-
-pub returns : goal.returns
-unfolding pause_of
-returns c = rw (ne_eqb _ _ c.if-i-eq63.false, ← c.spin-2.ensures)
+    (record { words_fit = search rules; bytes_fit = search rules; few_taken = room.few_taken; steps_are = room.steps_are }, record { flow_bound = boundary_goes _ _ _ _ _ _ _ _ _ room.steps_are c.boundary-flow.ensures run-bound.flow_bound; few_attempts = omega (arith, run-bound.few_attempts); few_boundaries = omega (arith, run-bound.few_boundaries); few_yields = omega (arith, run-bound.few_yields) })

@@ -9,8 +9,4 @@ use Rattle.bucket.proofs.retries.retry.Given as goal
 
 abbrev pub invariant-loop-i : goal.invariant-loop-i
 invariant-loop-i l =
-    Retrying (setting_of l.scope l.script l.held l.taken l.n) l.scope.steps l.scope.buckets l.registry l.binding l.bucket l.initial.run l.initial.table l.initial.health l.i l.last l.run l.table l.health
-
-abbrev pub decreases-loop-i : goal.decreases-loop-i
-decreases-loop-i l =
-    4096 - l.i
+    Retrying (setting_of l.scope l.script l.holds.held.now l.holds.taken.now l.holds.n) l.scope.steps l.scope.buckets l.registry l.binding l.bucket l.initial.run l.initial.table l.initial.health l.i l.last l.run l.table l.health

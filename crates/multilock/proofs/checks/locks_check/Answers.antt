@@ -1,9 +1,15 @@
 -- `multilock::checks::locks_check` meets its contract.
-use Rattle.multilock.specs.Fine.{locks_then}
+use mathlib.Core.Path.{sym, ◌∙◌}
+use Rattle.std.proofs.Common.{rules}
+use Rattle.laws.specs.Checks.{stopped, went_on}
+use Rattle.model.specs.Checks.{locks_rules}
+use Rattle.bucket.specs.Fine.{key_rules}
 use Rattle.multilock.proofs.checks.locks_check.Goals as goal
 
-pub returns-in-Fault : goal.returns-in-Fault
-returns-in-Fault c = rw (locks_then _ _ _ _ _ _ _ _ _, ← c.key_fault-key.ensures, c.in-Fault.is)
+pub returns-in_err-key_fault : goal.returns-in_err-key_fault
+unfolding locks_rules key_rules
+returns-in_err-key_fault c = stopped _ _ _ (search rules) (sym c.key_fault.ensures ∙ c.in_err-key_fault.was)
 
-pub returns-in-Fine : goal.returns-in-Fine
-returns-in-Fine c = rw (locks_then _ _ _ _ _ _ _ _ _, ← c.key_fault-key.ensures, c.in-Fine.is, ← c.all_keys_fault.ensures)
+pub returns : goal.returns
+unfolding locks_rules key_rules
+returns c = went_on _ _ c.all_keys_fault.ensures (sym c.key_fault.ensures ∙ c.in_ok-key_fault.was)

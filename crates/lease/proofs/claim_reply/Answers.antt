@@ -1,5 +1,0 @@
--- `lease::claim_reply` meets its contract.
-use Rattle.lease.proofs.claim_reply.Goals as goal
-
-pub returns : goal.returns
-returns c = rw (← c.outcome-said.ensures, ← c.answer_of.ensures, ← c.reply.ensures)

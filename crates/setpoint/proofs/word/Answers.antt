@@ -1,9 +1,0 @@
--- `setpoint::word` meets its contract.
-use Rattle.setpoint.specs.Float32.{pressure_no_nan}
-use Rattle.setpoint.proofs.word.Goals as goal
-
-pub float_to_bits-result : goal.float_to_bits-result
-float_to_bits-result c = pressure_no_nan _ _ c.in-Pressure.is c.requires
-
-pub returns-in-Pressure : goal.returns-in-Pressure
-returns-in-Pressure c = rw c.in-Pressure.is
