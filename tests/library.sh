@@ -1,7 +1,7 @@
 #!/usr/bin/env bash
 # The static library as people use it. Header, Rust face and archive have the same functions; document 01's bench cases and document 02's
 # keys in any order, salvage, boot numbers, crew at work, setpoint book and waveform run through the library from C and from Rust, and
-# each figure is checked. Built things go to target/library.
+# each figure is checked; and a pressure that is no number raises no floating-point exception. Built things go to target/library.
 set -euo pipefail
 cd "$(dirname "$0")/.."
 # shellcheck source=tests/lib.sh
@@ -58,6 +58,8 @@ fi
 passes "$out/bench_c" "bench cases in C: 16 passed"
 "$cc" -std=c99 -Wall -Wextra -Werror -pedantic -O2 -Iinclude tests/c/wave.c "$archive" -o "$out/wave_c"
 passes "$out/wave_c" "waveform in C: passed"
+"$cc" -std=c99 -Wall -Wextra -Werror -pedantic -O2 -Iinclude tests/c/floats.c "$archive" -o "$out/floats_c"
+passes "$out/floats_c" "no number, no exception in C: 6 passed"
 
 # ---- Rust; without cargo the version has to be told
 CARGO_PKG_VERSION=$(sed -n 's/^version = "\(.*\)"$/\1/p' rust/skid/Cargo.toml)

@@ -2,13 +2,37 @@
 use Rattle.std.specs.Prelude.{◌≡◌, refl, ℕ, zero, suc, ◌+◌, ◌/◌, ◌%◌, ◌≤◌, ◌<◌, Bool, true, false, not, cond, T, ltb, leb, eqb, Float}
 use Rattle.std.proofs.Common.{sym, ap, ◌∙◌, subst, arith, ltb-true, ltb-false, eq-eqb, ne_eqb}
 use Rattle.std.specs.Float.{nan, inf, fin, binary32, float_is_finite}
-use Rattle.std.specs.Float.Ieee.{is_nan, nan_bits, odd, of_fields, of_bits, to_bits, fits}
+use Rattle.std.specs.Float.Ieee.{is_nan, nan_bits, odd, of_fields, of_bits, to_bits, fits, eq, ne, neg}
 use Rattle.std.specs.Float.Ieee.Bits.{of_bits-to_bits, to_bits-of_bits, nan_bits_is}
 use Rattle.setpoint.specs.Codec.{is_finite, finite_bits, has_body}
 use Rattle.setpoint.specs.declared.Setpoint.{Setpoint}
 use Rattle.setpoint.specs.declared.Setpoint.TheVariants.{Pressure}
 
--- the library's test, which the code takes
+-- the infinity's pattern
+abbrev pub top : Float
+top = of_bits binary32 2139095040
+
+-- the three tests of the code
+pub finite_nan : (x : Float) → is_nan x ≡ true → is_finite x ≡ false
+unfolding is_finite is_nan
+finite_nan nan e = refl
+finite_nan (inf s) e = refl
+finite_nan (fin s m p) e = let z : false ≡ true = e in cc
+
+pub finite_above : (x : Float) → is_nan x ≡ false → ne x top ≡ true → is_finite x ≡ ne x (neg top)
+unfolding is_finite is_nan ne eq neg of_bits
+finite_above nan f e = let z : true ≡ false = f in cc
+finite_above (inf true) f e = refl
+finite_above (inf false) f e = let z : false ≡ true = e in cc
+finite_above (fin s m p) f e = refl
+
+pub finite_below : (x : Float) → ne x top ≡ false → is_finite x ≡ false
+unfolding is_finite ne eq of_bits
+finite_below nan e = refl
+finite_below (inf s) e = refl
+finite_below (fin s m p) e = let z : true ≡ false = e in cc
+
+-- the library's test says the same
 pub is_finite_lem : (x : Float) → float_is_finite x ≡ is_finite x
 unfolding is_finite float_is_finite
 is_finite_lem nan = refl
