@@ -40,15 +40,15 @@ take_cell | skid_try_lock | a free cell | 0 | 260
 give | skid_drop_lease | a live lease | 1 | 110
 is_mine | skid_read_permission | a live lease | 1 | 120
 set | skid_environment | one step, waiters or health | 1 | 210
-take_all | skid_acquire_sorted_locks | n keys, a bucket of each header | 1 16 32 64 | 1010 + 220 n + 5.2 n^2
-take_all_in_vain | skid_acquire_sorted_locks | the same, the last cell of a poisoned header | 1 16 32 64 | 1120 + 212 n + 2.85 n^2
+take_all | skid_acquire_sorted_locks | n keys, a bucket of each header | 1 16 32 64 | 1000 + 220 n + 5.2 n^2
+take_all_in_vain | skid_acquire_sorted_locks | the same, the last cell of a poisoned header | 1 16 32 64 | 1080 + 210 n + 2.6 n^2
 take_in_order | skid_acquire_index_locks | n keys | 1 16 32 64 | 620 + 46 n
-take_in_order_in_vain | skid_acquire_index_locks | the same, the last key of a poisoned header | 1 16 32 64 | 750 + 66 n
-give_all | skid_release_all | n leases, cells 251 apart | 1 16 32 64 | 256 + 55 n + 3 n^2
+take_in_order_in_vain | skid_acquire_index_locks | the same, the last key of a poisoned header | 1 16 32 64 | 750 + 52 n
+give_all | skid_release_all | n leases, cells 251 apart | 1 16 32 64 | 250 + 55 n + 3 n^2
 open | skid_prepare | n cells | 64 1024 4096 | 260 + 1.33 n
 mend | skid_salvage | n cells, each word and byte to be mended | 64 1024 4096 | 1500 + 58 n
 book_open | skid_prepare_book | n slots of 52 bytes | 1 16 64 | 110 + 6.5 n
-write | skid_write_speed | n slots of four versions, nothing slides | 1 16 32 64 | 1064 + 209 n
+write | skid_write_speed | n slots of four versions, nothing slides | 1 16 32 64 | 1060 + 209 n
 write_slide | skid_write_speed | the same, every kept body slides | 1 16 32 64 | 1050 + 397 n
 read | skid_read_setpoint | n slots of four versions | 1 16 32 64 | 890 + 151 n
 write_long | skid_write_speed | 64 slots in a book of n bytes, every kept body slides | 3328 16384 32768 | 21800 + 1.4 n'

@@ -31,7 +31,9 @@ fn put_bytes(book: &mut [u8], at: usize, bytes: &[u8])
     requires { at + length bytes.now ≤ length book.old }
     ensures { book.new ≡ sets book.old at bytes.now }
 {
-    book[at..at + bytes.len()].copy_from_slice(bytes);
+    for i in 0..bytes.len() {
+        book[at + i] = bytes[i];
+    }
 }
 
 // ---- the parts of a write

@@ -304,7 +304,11 @@ pub fn boundary(
     }
     // (a) No lease is this hold: law `steps_zero`, so it stands for none.
     let none = Hold { cell: 0, serial: 0 };
-    protecting_boundary(scope, flow, table, health, script, holds, none)
+    // Copies for the call alone: what is lent to it from outside this branch, a quiet boundary stores too.
+    let here = scope;
+    let from = flow;
+    let lent = *holds;
+    run_guarded(here, from, table, health, script, &lent, none)
 }
 
 // The same, with a lease of the call's own protected too.
@@ -325,7 +329,10 @@ pub fn protecting_boundary(
         (own ∷ [])) flow table.old health.old).seen }
 {
     if flow.place < scope.steps {
-        return run_guarded(scope, flow, table, health, script, holds, own);
+        let here = scope;
+        let from = flow;
+        let lent = *holds;
+        return run_guarded(here, from, table, health, script, &lent, own);
     }
     flow
 }

@@ -2,7 +2,7 @@
 use Prim.Native.Nat.{ℕ, ◌-◌}
 use mathlib.Core.Path.{ap, ◌∙◌}
 use mathlib.Core.List.{List}
-use Rattle.model.specs.Foreign.{boundary_of, steps_in}
+use Rattle.model.specs.Foreign.{boundary_of}
 use Rattle.model.specs.Log.{Made}
 use Rattle.types.specs.declared.Flow.{Flow}
 use native.Mathlib.Omega.{arith}
@@ -12,8 +12,8 @@ use Rattle.foreign.proofs.boundary.Goals as goal
 
 pub returns : goal.returns
 unfolding boundary_of
-returns c = let a = c.args in
-    c.protecting_boundary.ensures ∙ ap (λ (m : Made (Flow × (List ℕ × List ℕ))). m.seen) (steps_zero a.scope.headers a.scope.cells a.script.now (guards_of a.holds.now.held.now a.holds.now.taken.now a.holds.now.n) (steps_in a.script.now - a.flow.place) a.flow a.table.now a.health.now)
+returns c = let a = c.args in let room = c.requires.0 in
+    rw (← room.steps_are) (c.run_guarded.ensures ∙ ap (λ (m : Made (Flow × (List ℕ × List ℕ))). m.seen) (steps_zero a.scope.headers a.scope.cells a.script.now (guards_of a.holds.now.held.now a.holds.now.taken.now a.holds.now.n) (a.scope.steps - a.flow.place) a.flow a.table.now a.health.now))
 
 pub returns-then-scope-flow : goal.returns-then-scope-flow
 returns-then-scope-flow c = let a = c.args in let room = c.requires.0 in
