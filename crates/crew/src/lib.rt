@@ -19,7 +19,7 @@ use types::{Answer, CrewReply, Flow, Head, Outcome, Refusal};
 
 // What a turn comes to; a take hands on the next serial and the one it took.
 #[derive(Clone, Copy)]
-enum Move {
+pub enum Move {
     Idle,
     Took(u32, u32),
     Moved,
@@ -27,11 +27,11 @@ enum Move {
 
 // What all turns come to, besides the table.
 #[derive(Clone, Copy)]
-struct Worked {
-    next: u32,
-    moving: usize,
-    idle: usize,
-    made: [usize; 16],
+pub struct Worked {
+    pub next: u32,
+    pub moving: usize,
+    pub idle: usize,
+    pub made: [usize; 16],
 }
 
 // ---- the checks
@@ -193,12 +193,16 @@ fn note(full: bool, before: u16, counters: &[u16], low: u32) -> u16
 
 // ---- all turns
 
-// The first turn from here on whose member has a move left, or the end: those before it are idle.
+// The first turn from here on whose member has a move left, or the end: those before it are idle. In document 01's run
+// none is passed: by it a crew whose finished members take turns with waiting ones took a tenth more instructions.
 #[tactic(auto, using(crate::specs::Idle::passing))]
-fn pass_idle(turns: &[u32], left: &[usize; 16], from: usize) -> usize
+fn pass_idle<const ADDING: bool>(turns: &[u32], left: &[usize; 16], from: usize) -> usize
     requires { (from ≤ length turns.now) × OfSixteen turns.now }
     ensures { IdleTo turns.now left.now from result }
 {
+    if !ADDING {
+        return from;
+    }
     for i in from..turns.len() {
         if left[turns[i] as usize] != 0 {
             return i;
@@ -238,7 +242,7 @@ fn take_turns<const ADDING: bool>(
         let more = left[m];
         i += 1;
         if more == 0 {
-            i = pass_idle(turns, &left, i);
+            i = pass_idle::<ADDING>(turns, &left, i);
             continue;
         }
         let count = counts[m] as usize;

@@ -3,4 +3,4 @@ use Rattle.crew.specs.Idle.{IdleTo}
 use Rattle.crew.proofs.pass_idle.Given as goal
 
 abbrev pub invariant-loop-i : goal.invariant-loop-i
-invariant-loop-i l = IdleTo l.turns l.left l.from l.i
+invariant-loop-i g l = IdleTo l.turns l.left l.from l.i
