@@ -14,7 +14,7 @@
  *   and who takes the processor from a task inside a call must save them.
  * - The 128 bytes below the stack pointer (the red zone) are used. An interrupt must not write there: give it a stack
  *   of its own (interrupt stack table), or make the calls with interrupts off.
- * - Reads and writes of the setpoint book need the most stack of all calls, 6,944 bytes. The page has each.
+ * - Reads and writes of the setpoint book need the most stack of all calls, 6,928 bytes. The page has each.
  * No float crosses: a pressure goes in and comes out as the 32 bits of its binary32. So the calls are the same for a
  * program that is compiled without SSE (-mgeneral-regs-only, -mno-sse).
  *
@@ -91,7 +91,7 @@ extern "C" {
 #endif
 
 /* The version of header and library together; CHANGELOG.md says what came with which. */
-#define SKID_VERSION "0.18.3"
+#define SKID_VERSION "0.18.4"
 
 /*
  * The number of the interface. It rises with every change of a call, of an answer or of a layout, and is a part of the
