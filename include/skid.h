@@ -91,7 +91,7 @@ extern "C" {
 #endif
 
 /* The version of header and library together; CHANGELOG.md says what came with which. */
-#define SKID_VERSION "0.18.4"
+#define SKID_VERSION "0.18.5"
 
 /*
  * The number of the interface. It rises with every change of a call, of an answer or of a layout, and is a part of the

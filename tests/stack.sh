@@ -46,7 +46,7 @@ take_in_order | skid_acquire_index_locks | n keys | 1 16 32 64 | 620 + 46 n
 take_in_order_in_vain | skid_acquire_index_locks | the same, the last key of a poisoned header | 1 16 32 64 | 750 + 52 n
 give_all | skid_release_all | n leases, cells 251 apart | 1 16 32 64 | 250 + 55 n + 3 n^2
 open | skid_prepare | n cells | 64 1024 4096 | 260 + 1.33 n
-mend | skid_salvage | n cells, each word and byte to be mended | 64 1024 4096 | 1500 + 58 n
+mend | skid_salvage | n cells, each word and byte to be mended | 64 1024 4096 | 1500 + 50 n
 book_open | skid_prepare_book | n slots of 52 bytes | 1 16 64 | 110 + 6.5 n
 write | skid_write_speed | n slots of four versions, nothing slides | 1 16 32 64 | 1060 + 209 n
 write_slide | skid_write_speed | the same, every kept body slides | 1 16 32 64 | 1050 + 397 n

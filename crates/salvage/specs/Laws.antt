@@ -24,7 +24,7 @@ use Rattle.salvage.specs.declared.Ends.{Ends}
 use Rattle.laws.specs.Shape.{Shaped}
 use Rattle.laws.specs.Lists.{drop_one}
 use Rattle.laws.specs.Words.{bit_set_other, owner_set_other, bit_set_waiters, owner_set_waiters}
-use Rattle.laws.specs.Salvage.{changed_of, differing, changed_few, differing_few, entries_number, left_held_is, byte_kept, length_mended, length_mended_health}
+use Rattle.laws.specs.Salvage.{changed_of, differing, differing_few, entries_number, left_held_is, byte_kept, length_mended, length_mended_health}
 
 -- ---- one cell
 
@@ -56,9 +56,13 @@ held_in next t c = if is_held next (bit_at t c) (owner_at t c) then c ∷ [] els
 abbrev tallied : ℕ → ℕ → Tally
 tallied n m = record { changes = n; left = m }
 
--- of one cell more, on two counts
-unfoldable pub tallied_in : ℕ → List ℕ → ℕ → ℕ → ℕ → Tally
-tallied_in next t c n m = tallied (n + changed_in next t c) (m + length (held_in next t c))
+-- 1 for a word that is 0; how many words are 0
+unfoldable pub zero_in : ℕ → ℕ
+zero_in w = if eqb w 0 then 1 else 0
+
+unfoldable pub zeros_of : List ℕ → ℕ
+zeros_of [] = 0
+zeros_of (w ∷ t) = zero_in w + zeros_of t
 
 unfoldable pub count_cells_of : ℕ → List ℕ → ℕ
 count_cells_of next t = differing t (mended_table next t)
@@ -153,6 +157,31 @@ module _ (next b o : ℕ) where
   kept_owner : is_held next b o ≡ false → kept_of next b o o ≡ 0
   kept_owner e = kept_free o e (λ f. (free_words f).1)
 
+-- of a held cell neither is 0
+held_bit : (next b o : ℕ) → is_held next b o ≡ true → b ≢ 0
+unfolding is_held
+held_bit next b o e z = let w : false ≡ true = (rw z at e) in let q : ◌≡◌ {A = ℕ} 1 0 = ap (λ (x : Bool). if x then 0 else 1) w in omega arith
+
+held_owner : (next b o : ℕ) → is_held next b o ≡ true → o ≢ 0
+unfolding is_held
+held_owner next b o e z = let q : ◌≡◌ {A = ℕ} 1 0 = ap (λ (x : Bool). if x then 0 else 1) (go (eqb b 1) (rw z at e)) in omega arith
+  where
+    go : (x : Bool) → x && false ≡ true → false ≡ true
+    go true p = p
+    go false p = p
+
+-- a word is 0, or changes if it becomes 0
+zero_changed : (w : ℕ) → zero_in w + changed_of w 0 ≡ 1
+unfolding zero_in changed_of
+zero_changed w = go (eqb w 0)
+  where
+    go : (x : Bool) → ◌≡◌ {A = ℕ} ((if x then 1 else 0) + (if x then 0 else 1)) 1
+    go true = refl
+    go false = refl
+
+pub zero_few : (n w : ℕ) → n ≡ zero_in w → n ≤ 1
+zero_few n w e = omega (arith, zero_changed w)
+
 -- a word stored where it stands
 stays : (l : List ℕ) (i a : ℕ) → a ≡ get_or l i 0 → set l i a ≡ l
 stays l i a e = rw e (set-get_or l i 0)
@@ -227,29 +256,19 @@ module _ (next : ℕ) (t : List ℕ) (c : ℕ) where
   unfolding held_in
   held_none d = rw d
 
-  -- what its words add: none of a cell that is all 0, of a held one the waiters, of any other all three
-  pub tally_none : (n m x y w : ℕ) → x + y + w ≡ 0 → x ≡ bit_at t c → y ≡ owner_at t c → w ≡ waiters_at t c → tallied n m ≡ tallied_in next t c n m
-  unfolding tallied_in is_held
-  tally_none n m x y w z e f g =
-      let bit : bit_at t c ≡ 0 = omega arith in
-      let owner : owner_at t c ≡ 0 = omega arith in
-      let waiters : waiters_at t c ≡ 0 = omega arith in
-      let d : held_here ≡ false = rw bit in
-      let k : n + (changed_of 0 0 + changed_of 0 0 + changed_of 0 0) ≡ n = omega (arith, changed_self 0) in
-      let l : m + 0 ≡ m = omega arith in
-      rw (changed_other d, held_none d, bit, owner, waiters, k, l)
+  -- of its words, each is 0, or changes, or is bit or owner of a held cell
+  zeros_held : held_here ≡ true → zero_in (bit_at t c) + zero_in (owner_at t c) ≡ 0
+  unfolding zero_in
+  zeros_held d =
+      rw (ne_eqb (bit_at t c) 0 (held_bit next (bit_at t c) (owner_at t c) d), ne_eqb (owner_at t c) 0 (held_owner next (bit_at t c) (owner_at t c) d))
 
-  pub tally_held : (n m k w : ℕ) → held_here ≡ true → w ≡ waiters_at t c → k ≡ changed_of w 0 → tallied (n + k) (m + 1) ≡ tallied_in next t c n m
-  unfolding tallied_in
-  tally_held n m k w d e f = rw (changed_held d, held_one d, f, e)
-
-  pub tally_other : (n m i j k x y w : ℕ) → held_here ≡ false → x ≡ bit_at t c → y ≡ owner_at t c → w ≡ waiters_at t c
-      → i ≡ changed_of x 0 → j ≡ changed_of y 0 → k ≡ changed_of w 0 → tallied (n + i + j + k) m ≡ tallied_in next t c n m
-  unfolding tallied_in
-  tally_other n m i j k x y w d e f g o p q =
-      let r : n + i + j + k ≡ n + (changed_of (bit_at t c) 0 + changed_of (owner_at t c) 0 + changed_of (waiters_at t c) 0) = rw (o, p, q, e, f, g) (omega arith) in
-      let s : m + 0 ≡ m = omega arith in
-      rw (changed_other d, held_none d, r, s)
+  zeros_cell : zero_in (bit_at t c) + zero_in (owner_at t c) + zero_in (waiters_at t c) + changed_in next t c + 2 * length (held_in next t c) ≡ 3
+  zeros_cell = go held_here refl
+    where
+      go : (x : Bool) → held_here ≡ x
+          → zero_in (bit_at t c) + zero_in (owner_at t c) + zero_in (waiters_at t c) + changed_in next t c + 2 * length (held_in next t c) ≡ 3
+      go true d = rw (changed_held d, held_one d) (omega (arith, zeros_held d, zero_changed (waiters_at t c)))
+      go false d = rw (changed_other d, held_none d) (omega (arith, zero_changed (bit_at t c), zero_changed (owner_at t c), zero_changed (waiters_at t c)))
 
 mended_first : (next b o w : ℕ) (t : List ℕ) → mended_table next (b ∷ o ∷ w ∷ t) ≡ mended_cell next b o w ++ mended_table next t
 unfolding mended_table
@@ -284,6 +303,17 @@ module _ (next : ℕ) (t : List ℕ) where
   pub count_end : (c : ℕ) → length t ≤ 3 * c → changes_left c ≡ 0
   unfolding differing
   count_end c h = rw (from_end c h)
+
+  -- ---- words that are 0, by cells
+
+  zeros_turn : (c : ℕ) → 3 * c + 2 < length t
+      → zeros_of (from c) ≡ zero_in (bit_at t c) + zero_in (owner_at t c) + zero_in (waiters_at t c) + zeros_of (from (c + 1))
+  unfolding zeros_of
+  zeros_turn c h = rw (from_cell c h) (omega arith)
+
+  zeros_none : (c : ℕ) → length t ≤ 3 * c → zeros_of (from c) ≡ 0
+  unfolding zeros_of
+  zeros_none c h = rw (from_end c h)
 
   -- ---- entries
 
@@ -571,6 +601,23 @@ unfolding mended_at
 at_changed g report i b place at h =
     rw (byte_mended b h) (beside report (set (set (set report at place) (at + 1) b) (at + 2) 1) (change_of place b 1) (set g i 1) (at + 3) at (laid_change report at place b 1 (ne_eqb b 1 (omega arith))))
 
+-- ---- words that are 0, from word i on
+
+module _ (t : List ℕ) where
+  abbrev pub zeros_left : ℕ → ℕ
+  zeros_left i = zeros_of (drop i t)
+
+  pub zeros_word : (i : ℕ) → i < length t → zeros_left i ≡ zero_in (get_or t i 0) + zeros_left (i + 1)
+  unfolding zeros_of
+  zeros_word i h = rw (drop_one t i h)
+
+  pub zeros_end : (i : ℕ) → length t ≤ i → zeros_left i ≡ 0
+  unfolding zeros_of
+  zeros_end i h = rw (drop_of_length-le t h)
+
+  pub zeros_start : 0 + zeros_left 0 ≡ zeros_of t
+  zeros_start = omega arith
+
 -- ---- what is left at the start is all
 pub count_start : (next : ℕ) (t : List ℕ) → 0 + changes_left next t 0 ≡ count_cells_of next t
 unfolding count_cells_of
@@ -595,15 +642,23 @@ byte_entries_start place g = let e : place + 0 ≡ place = omega arith in rw e
 held_start : (next cells : ℕ) (t : List ℕ) → held_left next t cells 0 ≡ held_from next cells 0 t
 held_start next cells t = let e : cells - 0 ≡ cells = omega arith in rw e
 
--- a cell has at most three changes, and is at most one held cell
-changed_in_small : (n next : ℕ) (t : List ℕ) (c : ℕ) → n ≡ changed_in next t c → n ≤ 3
-unfolding changed_in
-changed_in_small n next t c e =
-    omega (arith, changed_few (bit_at t c) (kept_of next (bit_at t c) (owner_at t c) (bit_at t c)), changed_few (owner_at t c) (kept_of next (bit_at t c) (owner_at t c) (owner_at t c)), changed_few (waiters_at t c) 0)
-
-held_in_small : (n next : ℕ) (t : List ℕ) (c : ℕ) → n ≡ length (held_in next t c) → n ≤ 1
+-- a cell is at most one held cell
+pub held_in_small : (n next : ℕ) (t : List ℕ) (c : ℕ) → n ≡ length (held_in next t c) → n ≤ 1
 unfolding held_in
 held_in_small n next t c e = rw e (if_both (λ (x : List ℕ). length x ≤ 1) (is_held next (bit_at t c) (owner_at t c)) (omega arith) (omega arith))
+
+-- the count of held cells with one cell more, by its bit and by whether it is held
+pub held_unset : (next : ℕ) (t : List ℕ) (c n : ℕ) → bit_at t c ≢ 1 → n ≡ n + length (held_in next t c)
+unfolding is_held
+held_unset next t c n e = let d : held_here next t c ≡ false = rw (ne_eqb (bit_at t c) 1 e) in rw (held_none next t c d) (omega arith)
+
+pub held_adds : (next : ℕ) (t : List ℕ) (c b o : ℕ) (x : Bool) (n m : ℕ) → b ≡ bit_at t c → o ≡ owner_at t c → x ≡ is_held next b o
+    → (x ≡ true → m ≡ 1) → (x ≡ false → m ≡ 0) → n + m ≡ n + length (held_in next t c)
+held_adds next t c b o x n m e f d one none = go x refl
+  where
+    go : (y : Bool) → x ≡ y → n + m ≡ n + length (held_in next t c)
+    go true p = rw (held_one next t c (here next t c b o x e f d ∙ p), one p)
+    go false p = rw (held_none next t c (here next t c b o x e f d ∙ p), none p)
 
 pub held_turn_length : (next : ℕ) (t : List ℕ) (cells c : ℕ) → c < cells
     → length (held_left next t cells c) ≡ length (held_in next t c) + length (held_left next t cells (c + 1))
@@ -616,18 +671,32 @@ held_in_one next t c e = rw e
 pub held_count_end : (next : ℕ) (t : List ℕ) (cells c : ℕ) → cells ≤ c → length (held_left next t cells c) ≡ 0
 held_count_end next t cells c h = rw (held_end next t cells c h)
 
--- what a cell adds
-pub tally_parts : (next : ℕ) (t : List ℕ) (c n m : ℕ) (o : Tally) → o ≡ tallied_in next t c n m
-    → (o.changes ≡ n + changed_in next t c) × (o.left ≡ m + length (held_in next t c)) × (o.changes ≤ n + 3) × (o.left ≤ m + 1)
-unfolding tallied_in
-tally_parts next t c n m o e =
-    let p : o.changes ≡ n + changed_in next t c = ap (λ (q : Tally). q.changes) e in
-    let q : o.left ≡ m + length (held_in next t c) = ap (λ (q : Tally). q.left) e in
-    (p, q, omega (arith, changed_in_small _ next t c refl), omega (arith, held_in_small _ next t c refl))
+-- each word is 0, or changes, or is one of two of a held cell
+zeros_from : (next : ℕ) (t : List ℕ) (n c : ℕ) → length t ≡ 3 * (c + n)
+    → zeros_of (from next t c) + changes_left next t c + 2 * length (held_left next t (c + n) c) ≡ 3 * n
+zeros_from next t zero c l =
+    omega (arith, zeros_none next t c (omega arith), count_end next t c (omega arith), held_count_end next t (c + 0) c (omega arith))
+zeros_from next t (suc n) c l =
+    let m : c + 1 + n ≡ c + suc n = omega arith in
+    let same : length (held_left next t (c + 1 + n) (c + 1)) ≡ length (held_left next t (c + suc n) (c + 1)) = ap (λ (i : ℕ). length (held_left next t i (c + 1))) m in
+    omega (arith, zeros_turn next t c (omega arith), zeros_cell next t c, count_turn next t c (omega arith), held_turn_length next t (c + suc n) c (omega arith), zeros_from next t n (c + 1) (omega arith), same)
+
+pub zeros_all : (next cells : ℕ) (t : List ℕ) → length t ≡ 3 * cells → zeros_of t + count_cells_of next t + 2 * count_held_of next cells t ≡ length t
+zeros_all next cells t l =
+    let e : 0 + cells ≡ cells = omega arith in
+    let same : length (held_left next t (0 + cells) 0) ≡ length (held_left next t cells 0) = ap (λ (i : ℕ). length (held_left next t i 0)) e in
+    omega (arith, zeros_from next t cells 0 (omega arith), same, count_start next t, held_count_start next cells t)
 
 pub tally_cells_lem : (next cells : ℕ) (t : List ℕ) (n m : ℕ) → n ≡ count_cells_of next t → m ≡ count_held_of next cells t → tallied n m ≡ tally_cells next cells t
 unfolding tally_cells
 tally_cells_lem next cells t n m e f = rw (e, f)
+
+pub zeros_alone : (next cells : ℕ) (t : List ℕ) (n : ℕ) → length t ≡ 3 * cells → n ≡ zeros_of t → length t - n ≡ 0 → tallied 0 0 ≡ tally_cells next cells t
+zeros_alone next cells t n l e z = tally_cells_lem next cells t 0 0 (omega (arith, zeros_all next cells t l)) (omega (arith, zeros_all next cells t l))
+
+pub zeros_tally : (next cells : ℕ) (t : List ℕ) (m n : ℕ) → length t ≡ 3 * cells → m ≡ count_held_of next cells t → n ≡ zeros_of t
+    → tallied (length t - n - 2 * m) m ≡ tally_cells next cells t
+zeros_tally next cells t m n l e f = tally_cells_lem next cells t (length t - n - 2 * m) m (omega (arith, zeros_all next cells t l)) e
 
 -- ---- the two passes that write, from cell c or byte i on
 
@@ -853,10 +922,6 @@ changes_none : (place : ℕ) (t : List ℕ) → changes_from place t t ≡ []
 unfolding changes_from
 changes_none place [] = refl
 changes_none place (a ∷ t) = rw (change_self place a, changes_none (place + 1) t)
-
-held_bit : (next b o : ℕ) → is_held next b o ≡ true → b ≢ 0
-unfolding is_held
-held_bit next b o e z = let w : false ≡ true = (rw z at e) in let q : ◌≡◌ {A = ℕ} 1 0 = ap (λ (x : Bool). if x then 0 else 1) w in omega arith
 
 usedless : (t : List ℕ) (c : ℕ) → bit_at t c ≡ 0 → used_in t c ≡ []
 unfolding used_in

@@ -1,6 +1,6 @@
 // Salvage after a warm restart (document 02, L6). Each function but `salvage` is a part: it may have a `requires`,
-// which its callers prove. A first pass counts what would be written, so that ReportFull is known before the first
-// change; a second reads each cell once, lists it and mends it, and only lists it where there is nothing to mend.
+// which its callers prove. What would be written is counted first, so that ReportFull is known before the first change;
+// then each cell is read once, listed and mended, and only listed where there is nothing to mend.
 #![tactic(auto)]
 
 ghost use Rattle.std.specs.Prelude.{◌≡◌, ◌+◌, ◌*◌, ◌<◌, ◌≤◌, length, get_or};
@@ -10,7 +10,7 @@ ghost use Rattle.model.specs.Salvage.{mended_byte, change_of, held_from};
 ghost use Rattle.model.specs.Salvage.{changes_of, entries_of, left_held, concluded, mend_of, go_over_of, salvage_of};
 ghost use Rattle.laws.specs.Shape.{Shaped};
 ghost use Rattle.laws.specs.Salvage.{changed_of};
-ghost use Rattle.salvage.specs.Laws.{tallied_in, tally_cells, count_bytes_of, tally_of};
+ghost use Rattle.salvage.specs.Laws.{zero_in, zeros_of, count_held_of, tally_cells, count_bytes_of, tally_of};
 ghost use Rattle.salvage.specs.Laws.{changes_in, held_in, cleared_of, mended_in, cell_entries, mended_cells};
 ghost use Rattle.salvage.specs.Laws.{mended_at, byte_entries, mended_bytes};
 ghost use Rattle.salvage.specs.Laws.{laid_of, used_in, used_from};
@@ -33,13 +33,14 @@ struct Ends {
 
 // ---- counting
 
-// 1 for a word that changes if it becomes 0; for a byte that changes.
-// (d) Words and bytes go apart here and in mending: a byte becomes 1 where a word becomes 0.
-#[tactic(auto, unfolding(laws::specs::Salvage::changed_of))]
-fn changed(word: u32) -> usize
-    ensures { result ≡ changed_of word 0 }
+// 1 for a word that is 0; for a byte that changes.
+// (d) Words and bytes go apart here and in mending: what is counted of words is those that are 0, and a byte becomes 1
+// where a word becomes 0.
+#[tactic(auto, unfolding(crate::specs::Laws::zero_in))]
+fn zero(word: u32) -> u32
+    ensures { result ≡ zero_in word }
 {
-    usize::from(word != 0)
+    u32::from(word == 0)
 }
 
 #[tactic(auto, unfolding(laws::specs::Salvage::changed_of, model::specs::Salvage::mended_byte))]
@@ -49,56 +50,70 @@ fn changed_byte(byte: u8) -> usize
     usize::from(1 < byte)
 }
 
-// Whether a cell of this bit and owner is held; a mended one is exactly if it was.
+// Whether a cell of this bit and owner is held; a mended one is exactly if it was. One test asks for both bounds of the
+// owner: 0 is nobody's serial, and less 1 it wraps round to the largest number.
 #[tactic(auto, unfolding(model::specs::Arena::is_held))]
 fn is_held(next: u32, bit: u32, owner: u32) -> bool
     ensures { result ≡ is_held next bit owner }
 {
-    bit == 1 && 1 <= owner && owner < next
+    bit == 1 && owner.wrapping_sub(1) < next.saturating_sub(1)
 }
 
-// Both counts with one cell more: a held one keeps bit and owner, of any other all three words become 0. Most are all
-// 0, and one test passes over them; the counts go through it, so that such a cell costs no sum.
-// (c) `as u64` stays: with `u64::from` the goal `returns-then-from-eq0` was not proved.
-fn tally_in(next: u32, table: &[u32], cell: u32, sums: Tally) -> Tally
-    requires { (3 * cell + 2 < length table.now) × (sums.changes ≤ 20000) × (sums.left ≤ 20000) }
-    ensures { result ≡ tallied_in next table.now cell sums.changes sums.left }
+// Words of the table that are 0, counted in words: so the compiler counts several at once.
+fn count_zeros(table: &[u32]) -> u32
+    requires { length table.now ≤ 12288 }
+    ensures { result ≡ zeros_of table.now }
+{
+    let mut count = 0;
+    for &word in table {
+        count += zero(word);
+    }
+    count
+}
+
+// The count of held cells with one cell more. Most are free, and of such a cell only the bit is read.
+fn add_held(next: u32, table: &[u32], cell: u32, count: usize) -> usize
+    requires { (3 * cell + 2 < length table.now) × (count ≤ 4096) }
+    ensures { result ≡ count + length (held_in next table.now cell) }
 {
     let bit = arena::bit_at(table, cell);
+    if bit != 1 {
+        return count;
+    }
     let owner = arena::owner_at(table, cell);
-    let waiters = arena::waiters_at(table, cell);
-    if (bit as u64) + (owner as u64) + (waiters as u64) == 0 {
-        return sums;
-    }
-    if is_held(next, bit, owner) {
-        let c = changed(waiters);
-        return Tally {
-            changes: sums.changes + c,
-            left: sums.left + 1,
-        };
-    }
-    let a = changed(bit);
-    let b = changed(owner);
-    let c = changed(waiters);
-    Tally {
-        changes: sums.changes + a + b + c,
-        ..sums
-    }
+    count + usize::from(is_held(next, bit, owner))
 }
 
-// All cells.
+// Cells that are held.
+fn count_held(next: u32, table: &[u32], cells: u32) -> usize
+    requires { (length table.now ≡ 3 * cells) × (cells ≤ 4096) }
+    ensures { result ≡ count_held_of next cells table.now }
+{
+    let mut count = 0;
+    for cell in 0..cells {
+        count = add_held(next, table, cell, count);
+    }
+    count
+}
+
+// Both counts of all cells: none where each word is 0, as a preparation leaves them. A held cell keeps bit and owner,
+// and neither is 0; every other word that is not 0 changes.
 fn count_cells(next: u32, table: &[u32], cells: u32) -> Tally
     requires { (length table.now ≡ 3 * cells) × (cells ≤ 4096) }
     ensures { result ≡ tally_cells next cells table.now }
 {
-    let mut sums = Tally {
-        changes: 0,
-        left: 0,
-    };
-    for cell in 0..cells {
-        sums = tally_in(next, table, cell, sums);
+    let set = table.len() - count_zeros(table) as usize;
+    if set == 0 {
+        return Tally {
+            changes: 0,
+            left: 0,
+        };
     }
-    sums
+    let left = count_held(next, table, cells);
+    Tally {
+        changes: set - 2 * left,
+        left,
+    }
 }
 
 // Health bytes that change.
