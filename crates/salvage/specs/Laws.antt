@@ -691,9 +691,6 @@ pub tally_cells_lem : (next cells : ℕ) (t : List ℕ) (n m : ℕ) → n ≡ co
 unfolding tally_cells
 tally_cells_lem next cells t n m e f = rw (e, f)
 
-pub zeros_alone : (next cells : ℕ) (t : List ℕ) (n : ℕ) → length t ≡ 3 * cells → n ≡ zeros_of t → length t - n ≡ 0 → tallied 0 0 ≡ tally_cells next cells t
-zeros_alone next cells t n l e z = tally_cells_lem next cells t 0 0 (omega (arith, zeros_all next cells t l)) (omega (arith, zeros_all next cells t l))
-
 pub zeros_tally : (next cells : ℕ) (t : List ℕ) (m n : ℕ) → length t ≡ 3 * cells → m ≡ count_held_of next cells t → n ≡ zeros_of t
     → tallied (length t - n - 2 * m) m ≡ tally_cells next cells t
 zeros_tally next cells t m n l e f = tally_cells_lem next cells t (length t - n - 2 * m) m (omega (arith, zeros_all next cells t l)) e

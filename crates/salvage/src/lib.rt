@@ -34,8 +34,8 @@ struct Ends {
 // ---- counting
 
 // 1 for a word that is 0; for a byte that changes.
-// (d) Words and bytes go apart here and in mending: what is counted of words is those that are 0, and a byte becomes 1
-// where a word becomes 0.
+// (d) Words and bytes go apart here and in mending: a word becomes 0 and a byte 1, and of words those are counted that
+// stay.
 #[tactic(auto, unfolding(crate::specs::Laws::zero_in))]
 fn zero(word: u32) -> u32
     ensures { result ≡ zero_in word }
@@ -59,7 +59,7 @@ fn is_held(next: u32, bit: u32, owner: u32) -> bool
     bit == 1 && owner.wrapping_sub(1) < next.saturating_sub(1)
 }
 
-// Words of the table that are 0, counted in words: so the compiler counts several at once.
+// Words of the table that are 0. The count is as wide as they are: so the compiler counts several at once.
 fn count_zeros(table: &[u32]) -> u32
     requires { length table.now ≤ 12288 }
     ensures { result ≡ zeros_of table.now }
@@ -71,7 +71,7 @@ fn count_zeros(table: &[u32]) -> u32
     count
 }
 
-// The count of held cells with one cell more. Most are free, and of such a cell only the bit is read.
+// The count of held cells with one cell more. Of a free cell only the bit is read here.
 fn add_held(next: u32, table: &[u32], cell: u32, count: usize) -> usize
     requires { (3 * cell + 2 < length table.now) × (count ≤ 4096) }
     ensures { result ≡ count + length (held_in next table.now cell) }
@@ -96,22 +96,15 @@ fn count_held(next: u32, table: &[u32], cells: u32) -> usize
     count
 }
 
-// Both counts of all cells: none where each word is 0, as a preparation leaves them. A held cell keeps bit and owner,
-// and neither is 0; every other word that is not 0 changes.
+// Both counts of all cells. A held cell keeps bit and owner, and neither is 0; every other word that is not 0 changes.
 fn count_cells(next: u32, table: &[u32], cells: u32) -> Tally
     requires { (length table.now ≡ 3 * cells) × (cells ≤ 4096) }
     ensures { result ≡ tally_cells next cells table.now }
 {
-    let set = table.len() - count_zeros(table) as usize;
-    if set == 0 {
-        return Tally {
-            changes: 0,
-            left: 0,
-        };
-    }
     let left = count_held(next, table, cells);
+    let zeros = count_zeros(table) as usize;
     Tally {
-        changes: set - 2 * left,
+        changes: table.len() - zeros - 2 * left,
         left,
     }
 }
