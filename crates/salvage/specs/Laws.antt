@@ -311,10 +311,6 @@ module _ (next : ℕ) (t : List ℕ) where
   unfolding zeros_of
   zeros_turn c h = rw (from_cell c h) (omega arith)
 
-  zeros_none : (c : ℕ) → length t ≤ 3 * c → zeros_of (from c) ≡ 0
-  unfolding zeros_of
-  zeros_none c h = rw (from_end c h)
-
   -- ---- entries
 
   abbrev pub entries_left : ℕ → List ℕ
@@ -675,7 +671,7 @@ held_count_end next t cells c h = rw (held_end next t cells c h)
 zeros_from : (next : ℕ) (t : List ℕ) (n c : ℕ) → length t ≡ 3 * (c + n)
     → zeros_of (from next t c) + changes_left next t c + 2 * length (held_left next t (c + n) c) ≡ 3 * n
 zeros_from next t zero c l =
-    omega (arith, zeros_none next t c (omega arith), count_end next t c (omega arith), held_count_end next t (c + 0) c (omega arith))
+    omega (arith, zeros_end t (3 * c) (omega arith), count_end next t c (omega arith), held_count_end next t (c + 0) c (omega arith))
 zeros_from next t (suc n) c l =
     let m : c + 1 + n ≡ c + suc n = omega arith in
     let same : length (held_left next t (c + 1 + n) (c + 1)) ≡ length (held_left next t (c + suc n) (c + 1)) = ap (λ (i : ℕ). length (held_left next t i (c + 1))) m in

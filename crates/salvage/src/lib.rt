@@ -34,8 +34,7 @@ struct Ends {
 // ---- counting
 
 // 1 for a word that is 0; for a byte that changes.
-// (d) Words and bytes go apart here and in mending: a word becomes 0 and a byte 1, and of words those are counted that
-// stay.
+// (d) Words and bytes go apart here and in mending: a word becomes 0 and a byte 1.
 #[tactic(auto, unfolding(crate::specs::Laws::zero_in))]
 fn zero(word: u32) -> u32
     ensures { result ≡ zero_in word }
